@@ -1,0 +1,118 @@
+-- Laws of lists: what is in a list that is made of others, and how long it is; and the pigeonhole: to compare lengths, each
+-- element of the distinct list is taken out of the list that holds it, which is then one shorter and still holds the rest.
+use Prim.Native.Nat.{ℕ, zero, suc, _*_, _≤_, _<_, zero-le}
+use native.Mathlib.Nat.{suc-mul, zero-mul, not-suc-le-zero}
+use native.Mathlib.Omega.{arith}
+use native.Mathlib.Decide.{ℕ-discrete}
+use mathlib.Core.Path.{_≡_, refl, sym, _∙_, ap, subst}
+use mathlib.Core.Logic.{_⊎_, inl, inr}
+use mathlib.Core.Bool.{Bool, true, false, false≢true}
+use mathlib.Core.List.{List, [], _∷_, map, List·Memᴰ, List·Memᴰ·head, List·Memᴰ·tail, List·Memᴰ·not-nil, List·Memᴰ·cases-cons, List·Memᴰ·append-cases, List·Memᴰ·eq-of-singleton, Memᴰ·append-left, Memᴰ·append-right, Memᴰ·cast}
+use lib.Dec.{eqb}
+use lib.ListN.{length, length-append}
+use borrow.Author.Tests.{eq-eqb}
+use Rattle.grammar.specs.Lists.{Stands, here, there, Distinct, none, more, concatMap, only, upTo}
+
+-- A number is itself.
+pub eqb-self : (n : ℕ) → eqb n n ≡ true
+eqb-self n = eq-eqb n n refl
+
+-- The parts of a concatenation.
+pub in-concatMap : {A B : Type 0} {x : B} (f : A → List B) (l : List A) → List·Memᴰ x (concatMap f l)
+    → (y : A) × List·Memᴰ y l × List·Memᴰ x (f y)
+in-concatMap f [] m = absurd (List·Memᴰ·not-nil m)
+in-concatMap f (z ∷ l) m = elim (List·Memᴰ·append-cases (f z) m) [
+  | inl p ↦ (z, List·Memᴰ·head refl, p)
+  | inr p ↦ let (y, q, r) = in-concatMap f l p in (y, List·Memᴰ·tail q, r)
+]
+
+pub concatMap-in : {A B : Type 0} {x : B} {y : A} {l : List A} (f : A → List B) → List·Memᴰ y l → List·Memᴰ x (f y)
+    → List·Memᴰ x (concatMap f l)
+concatMap-in {x = x} f (List·Memᴰ·head {xs = l} e) m =
+    Memᴰ·append-left (concatMap f l) (subst (λ w. List·Memᴰ x (f w)) e m)
+concatMap-in f (List·Memᴰ·tail {x = z} n) m = Memᴰ·append-right (f z) (concatMap-in f n m)
+
+pub length-concatMap : {A B : Type 0} (f : A → List B) (c : ℕ) → ((x : A) → length (f x) ≡ c) → (l : List A)
+    → length (concatMap f l) ≡ length l * c
+length-concatMap f c h [] = sym (zero-mul c)
+length-concatMap f c h (x ∷ l) =
+    omega (arith, length-append (f x) (concatMap f l), h x, length-concatMap f c h l, suc-mul (length l) c)
+
+-- An element under a test.
+pub in-only : {A : Type 0} {x y : A} (b : Bool) → List·Memᴰ y (only b x) → (b ≡ true) × (y ≡ x)
+in-only true m = (refl, List·Memᴰ·eq-of-singleton m)
+in-only false m = absurd (List·Memᴰ·not-nil m)
+
+pub only-in : {A : Type 0} (b : Bool) (x : A) → b ≡ true → List·Memᴰ x (only b x)
+only-in true x e = List·Memᴰ·head refl
+only-in false x e = absurd (false≢true e)
+
+-- The numbers below a bound.
+pub in-upTo : {k : ℕ} (n : ℕ) → List·Memᴰ k (upTo n) → k < n
+in-upTo zero m = absurd (List·Memᴰ·not-nil m)
+in-upTo (suc n) m = elim (List·Memᴰ·cases-cons m) [
+  | inl e ↦ omega arith
+  | inr p ↦ omega (arith, in-upTo n p)
+]
+
+pub upTo-in : {k : ℕ} (n : ℕ) → k < n → List·Memᴰ k (upTo n)
+upTo-in zero h = absurd (not-suc-le-zero h)
+upTo-in {k} (suc n) h = elim (ℕ-discrete k n) [
+  | yes e ↦ List·Memᴰ·head e
+  | no d ↦ List·Memᴰ·tail (upTo-in n (omega arith))
+]
+
+pub length-upTo : (n : ℕ) → length (upTo n) ≡ n
+length-upTo zero = refl
+length-upTo (suc n) = ap suc (length-upTo n)
+
+-- The values of a function.
+pub in-map : {A B : Type 0} {y : B} (f : A → B) (l : List A) → List·Memᴰ y (map f l) → (x : A) × List·Memᴰ x l × (y ≡ f x)
+in-map f [] m = absurd (List·Memᴰ·not-nil m)
+in-map f (z ∷ l) m = elim (List·Memᴰ·cases-cons m) [
+  | inl e ↦ (z, List·Memᴰ·head refl, e)
+  | inr p ↦ let (x, q, e) = in-map f l p in (x, List·Memᴰ·tail q, e)
+]
+
+pub map-in : {A B : Type 0} {x : A} {l : List A} (f : A → B) → List·Memᴰ x l → List·Memᴰ (f x) (map f l)
+map-in f (List·Memᴰ·head e) = List·Memᴰ·head (ap f e)
+map-in f (List·Memᴰ·tail m) = List·Memᴰ·tail (map-in f m)
+
+-- A member has a place, and what has a place is a member.
+pub stands-in : {A : Type 0} {x : A} {k : ℕ} {l : List A} → Stands l k x → List·Memᴰ x l
+stands-in here = List·Memᴰ·head refl
+stands-in (there s) = List·Memᴰ·tail (stands-in s)
+
+pub in-stands : {A : Type 0} {x : A} {l : List A} → List·Memᴰ x l → (k : ℕ) × Stands l k x
+in-stands (List·Memᴰ·head {x = y} {xs = l} e) = (0, subst (λ z. Stands (y ∷ l) 0 z) (sym e) here)
+in-stands (List·Memᴰ·tail m) = let (k, s) = in-stands m in (suc k, there s)
+
+-- The list without one member.
+without : {A : Type 0} {x : A} {l : List A} → List·Memᴰ x l → List A
+without (List·Memᴰ·head {xs = l} e) = l
+without (List·Memᴰ·tail {x = z} m) = z ∷ without m
+
+length-without : {A : Type 0} {x : A} {l : List A} (m : List·Memᴰ x l) → length l ≡ suc (length (without m))
+unfolding without
+length-without (List·Memᴰ·head e) = refl
+length-without (List·Memᴰ·tail m) = ap suc (length-without m)
+
+in-without : {A : Type 0} {x y : A} {l : List A} (m : List·Memᴰ x l) → List·Memᴰ y l → (y ≡ x) ⊎ List·Memᴰ y (without m)
+unfolding without
+in-without (List·Memᴰ·head e) n = elim (List·Memᴰ·cases-cons n) [ inl d ↦ inl (d ∙ sym e) | inr p ↦ inr p ]
+in-without (List·Memᴰ·tail m) n = elim (List·Memᴰ·cases-cons n) [
+  | inl d ↦ inr (List·Memᴰ·head d)
+  | inr p ↦ elim (in-without m p) [ inl d ↦ inl d | inr q ↦ inr (List·Memᴰ·tail q) ]
+]
+
+-- The pigeonhole.
+pub distinct-length : {A : Type 0} {l l′ : List A} → Distinct l → ((x : A) → List·Memᴰ x l → List·Memᴰ x l′)
+    → length l ≤ length l′
+distinct-length none h = zero-le
+distinct-length {A} {l′ = l′} (more {x} {l} new d) h = omega (arith, length-without m, distinct-length d rest)
+  where
+    m : List·Memᴰ x l′
+    m = h x (List·Memᴰ·head refl)
+
+    rest : (y : A) → List·Memᴰ y l → List·Memᴰ y (without m)
+    rest y n = elim (in-without m (h y (List·Memᴰ·tail n))) [ inl e ↦ absurd (new (Memᴰ·cast (sym e) n)) | inr p ↦ p ]

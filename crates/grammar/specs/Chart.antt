@@ -1,0 +1,92 @@
+-- Document 01, "The chart" (records) and "The plan" (unfolding): what a chart is, and the plan that is read off it.
+use Prim.Native.Nat.{ℕ, zero, suc, _<_}
+use mathlib.Core.Path.{_≡_}
+use mathlib.Core.List.{List, [], _∷_, _++_, map}
+use mathlib.Core.Option.{Option, none, some}
+use lib.ListN.{getElem?}
+use Rattle.grammar.specs.Lists.{Stands, Distinct}
+use Rattle.grammar.specs.Rewriting.{Rule, Lexical, Spine, Action, Take, Keep, Give}
+use Rattle.grammar.specs.Items.{Foot, bare, foot, Derived}
+use Rattle.grammar.specs.ItemList.{Item, item}
+use Rattle.grammar.specs.Plan.{PlanStep, planStep}
+
+-- One record: an item, the production of the step that derived it, and the positions of that step's antecedents.
+pub data Record : Type 0 where
+  recorded : (it : Item) (production side dependent continuation : ℕ) → Record
+
+-- The position where there is none.
+abbrev pub nowhere : ℕ
+nowhere = 65535
+
+-- The item of a record; and `Earlier c m x it`: the record at position x, which is below m, has the item it.
+abbrev pub itemOf : Record → Item
+itemOf (recorded it p x y z) = it
+
+pub data Earlier (c : List Record) (m : ℕ) : ℕ → Item → Type 0 where
+  earlier : {x p y z u : ℕ} {it : Item} → x < m → Stands c x (recorded it p y z u) → Earlier c m x it
+
+-- What the action makes of a dependent D over k to j with foot ψ: the continuation's position, and the foot of the result.
+pub data Results (c : List Record) (m : ℕ) : Action → ℕ → ℕ → ℕ → Foot → ℕ → Foot → Type 0 where
+  taken : {γ D k j : ℕ} {ψ : Foot} → Results c m (Take γ) D k j ψ nowhere (foot γ D k j)
+  kept : {D k j : ℕ} {ψ : Foot} → Results c m Keep D k j ψ nowhere ψ
+  given : {γ D k j B p q z : ℕ} {φ : Foot} → Earlier c m z (item B p q φ)
+      → Results c m (Give γ) D k j (foot γ B p q) z φ
+
+-- `Justified g at c m e`: the record e at position m is one of the deduction steps, from records before it. Rules with one side.
+pub data Justified (g : List Rule) (at : ℕ → ℕ → Type 0) (c : List Record) (m : ℕ) : Record → Type 0 where
+  byWord : {p A w i : ℕ} → Stands g p (Lexical A w) → at i w
+      → Justified g at c m (recorded (item A i (suc i) bare) p nowhere nowhere nowhere)
+  sideFirst : {p A B D i k j x y z : ℕ} {a : Action} {ψ φ : Foot} → Stands g p (Spine A a (B ∷ []) D [])
+      → Earlier c m x (item B i k bare) → Earlier c m y (item D k j ψ) → Results c m a D k j ψ z φ
+      → Justified g at c m (recorded (item A i j φ) p x y z)
+  sideLast : {p A B D i k j x y z : ℕ} {a : Action} {ψ φ : Foot} → Stands g p (Spine A a [] D (B ∷ []))
+      → Earlier c m y (item D i k ψ) → Earlier c m x (item B k j bare) → Results c m a D i k ψ z φ
+      → Justified g at c m (recorded (item A i j φ) p x y z)
+
+-- A chart: each record is justified, no item stands twice, and every derived item is there.
+pub record IsChart (g : List Rule) (at : ℕ → ℕ → Type 0) (c : List Record) : Type 0 where
+  pub justified : (m : ℕ) (e : Record) → Stands c m e → Justified g at c m e
+  pub distinct : Distinct (map itemOf c)
+  pub complete : (A i j : ℕ) (φ : Foot) → Derived g at A i j φ → (m : ℕ) × (e : Record) × Stands c m e × (itemOf e ≡ item A i j φ)
+
+-- Unfolding. A side is unfolded with nothing pending, a spine with the positions of its pending continuations. Where a spine goes
+-- on after a step: a take goes on with the pending continuation and not with its recorded dependent, a give adds its own.
+pub record Onward : Type 0 where
+  pub position : ℕ
+  pub pending : List ℕ
+
+abbrev pub onward : Action → ℕ → ℕ → List ℕ → Onward
+onward (Take γ) dependent continuation [] = record { position = dependent; pending = [] }
+onward (Take γ) dependent continuation (x ∷ pending) = record { position = x; pending = pending }
+onward Keep dependent continuation pending = record { position = dependent; pending = pending }
+onward (Give γ) dependent continuation pending = record { position = dependent; pending = continuation ∷ pending }
+
+-- The stretch of the item at a position.
+abbrev pub fromOf : Option Record → ℕ
+fromOf none = 0
+fromOf (some (recorded (item A i j φ) p x y z)) = i
+
+abbrev pub toOf : Option Record → ℕ
+toOf none = 0
+toOf (some (recorded (item A i j φ) p x y z)) = j
+
+-- The steps for a record by its rule, where `go` unfolds what stands at a position with what is pending. Leftmost first.
+abbrev pub unfoldRule : List Record → (ℕ → List ℕ → List PlanStep) → Option Rule → Record → List ℕ → List PlanStep
+unfoldRule c go none e pending = []
+unfoldRule c go (some (Lexical A′ w)) (recorded (item A i j φ) p x y z) pending = planStep p i j j ∷ []
+unfoldRule c go (some (Spine A′ a (B ∷ before) D after)) (recorded (item A i j φ) p x y z) pending =
+    planStep p i (toOf (getElem? c x)) j ∷ (go x [] ++ go (onward a y z pending .position) (onward a y z pending .pending))
+unfoldRule c go (some (Spine A′ a [] D after)) (recorded (item A i j φ) p x y z) pending =
+    planStep p i (fromOf (getElem? c x)) j ∷ (go (onward a y z pending .position) (onward a y z pending .pending) ++ go x [])
+
+abbrev pub productionOf : Record → ℕ
+productionOf (recorded it p x y z) = p
+
+abbrev pub unfoldRecord : List Rule → List Record → (ℕ → List ℕ → List PlanStep) → Option Record → List ℕ → List PlanStep
+unfoldRecord g c go none pending = []
+unfoldRecord g c go (some e) pending = unfoldRule c go (getElem? g (productionOf e)) e pending
+
+-- The plan of the record at position m; spans get shorter at each call, so their length bounds the depth.
+abbrev pub unfolds : List Rule → List Record → ℕ → ℕ → List ℕ → List PlanStep
+unfolds g c zero m pending = []
+unfolds g c (suc depth) m pending = unfoldRecord g c (λ x ys. unfolds g c depth x ys) (getElem? c m) pending

@@ -1,0 +1,81 @@
+-- Check's number is 0 exactly for the bytes of a leftmost derivation of an accepted line: bytes and steps are each other's, and the
+-- plan test decides the rest. So what Read may write passes Check, and what passes Check derives the line in 2n − 1 steps.
+use Prim.Native.Nat.{ℕ, _*_, _-_}
+use native.Mathlib.Omega.{arith}
+use mathlib.Core.Path.{_≡_, refl, sym, _∙_, ap, subst}
+use mathlib.Core.Bool.{Bool, true, false, false≢true}
+use mathlib.Core.List.{List, [], _∷_}
+use mathlib.Core.Option.{Option, none, some}
+use lib.Dec.{eqb}
+use lib.ListN.{length}
+use borrow.Author.Tests.{eqb-true, eq-eqb}
+use Rattle.grammar.specs.Input.{Holds}
+use Rattle.grammar.specs.Plan.{PlanStep, planStep, LeftmostDerivation, passes}
+use Rattle.grammar.proofs.StandsLaws.{none-some, some-same}
+use Rattle.grammar.proofs.PlanTest.{passes-sound, passes-complete}
+use Rattle.grammar.proofs.PlanSize.{derivation-length}
+use Rattle.grammar.proofs.Existence.{plan-derivation}
+use Rattle.layout.specs.Bytes.{check}
+use Rattle.layout.specs.Card.{grammarOf}
+use Rattle.layout.specs.Line.{numbersOf}
+use Rattle.layout.specs.Steps.{planBytes, stepsOf, andStep, planSteps}
+use Rattle.layout.specs.Answers.{inputNumber, wordsIn, lineTest, planPasses, checkNumber}
+use Rattle.layout.proofs.CardLaws.{card-one-sided}
+use Rattle.layout.proofs.Reading.{HasDerivation, count-numbers}
+
+-- The steps are a leftmost derivation of the line under the card.
+abbrev pub Derives : List ℕ → List ℕ → List PlanStep → Type 0
+Derives card line plan = LeftmostDerivation (grammarOf card) (Holds (lineTest card line)) (wordsIn line) plan
+
+pub steps-bytes : (plan : List PlanStep) → stepsOf (planBytes plan) ≡ some plan
+steps-bytes [] = refl
+steps-bytes (planStep p i k j ∷ plan) = ap (andStep (planStep p i k j)) (steps-bytes plan)
+
+and-some : (st : PlanStep) (o : Option (List PlanStep)) {plan : List PlanStep} → andStep st o ≡ some plan
+    → (rest : List PlanStep) × (o ≡ some rest) × (plan ≡ st ∷ rest)
+and-some st none e = absurd (none-some e)
+and-some st (some rest) e = (rest, refl, sym (some-same e))
+
+pub bytes-steps : (bytes : List ℕ) {plan : List PlanStep} → stepsOf bytes ≡ some plan → bytes ≡ planBytes plan
+bytes-steps [] e = ap planBytes (some-same e)
+bytes-steps (p ∷ []) e = absurd (none-some e)
+bytes-steps (p ∷ i ∷ []) e = absurd (none-some e)
+bytes-steps (p ∷ i ∷ k ∷ []) e = absurd (none-some e)
+bytes-steps (p ∷ i ∷ k ∷ j ∷ bytes) e =
+    let (rest, e₁, e₂) = and-some (planStep p i k j) (stepsOf bytes) e in
+    ap (λ (l : List ℕ). p ∷ i ∷ k ∷ j ∷ l) (bytes-steps bytes e₁) ∙ sym (ap planBytes e₂)
+
+-- Both of Check's tests, with the tests as variables.
+both : (a b : Bool) (x : ℕ) → (x ≡ 0 → a ≡ true) → check a x (check b 34 0) ≡ 0 → (a ≡ true) × (b ≡ true)
+both true true x f e = (refl, refl)
+both true false x f e = absurd (omega arith)
+both false b x f e = absurd (false≢true (f e))
+
+passing : (card line : List ℕ) (o : Option (List PlanStep)) → planPasses card line o ≡ true
+    → (plan : List PlanStep) × (o ≡ some plan) × Derives card line plan
+passing card line none e = absurd (false≢true e)
+passing card line (some plan) e = (plan, refl, passes-sound (grammarOf card) (lineTest card line) (wordsIn line) e)
+
+-- What passes is a leftmost derivation, every byte of it, of an accepted line.
+pub check-sound : (card line bytes : List ℕ) → checkNumber card line bytes ≡ 0
+    → (inputNumber card line ≡ 0) × (plan : List PlanStep) × (bytes ≡ planBytes plan) × Derives card line plan
+check-sound card line bytes e =
+    let x = inputNumber card line in
+    let (e₁, e₂) = both (eqb x 0) (planPasses card line (stepsOf bytes)) x (eq-eqb x 0) e in
+    let (plan, e₃, d) = passing card line (stepsOf bytes) e₂ in
+    (eqb-true x 0 e₁, plan, bytes-steps bytes e₃, d)
+
+-- And every such derivation passes: so does what Read writes.
+pub check-complete : (card line : List ℕ) (plan : List PlanStep) → inputNumber card line ≡ 0 → Derives card line plan
+    → checkNumber card line (planBytes plan) ≡ 0
+check-complete card line plan e d =
+    simp (eq-eqb _ _ e, steps-bytes plan, passes-complete (grammarOf card) (lineTest card line) (wordsIn line) d)
+
+-- A plan that passes has 2n − 1 steps, and the line a derivation.
+pub derives-length : (card line : List ℕ) {plan : List PlanStep} → Derives card line plan → length plan ≡ planSteps (wordsIn line)
+derives-length card line d = derivation-length (grammarOf card) (Holds (lineTest card line)) (card-one-sided card) d
+
+pub derives-derivation : (card line : List ℕ) {plan : List PlanStep} → Derives card line plan → HasDerivation card line
+derives-derivation card line {plan} d =
+    plan-derivation (grammarOf card) (numbersOf card line)
+    (subst (λ (n : ℕ). LeftmostDerivation (grammarOf card) (Holds (lineTest card line)) n plan) (sym (count-numbers card line)) d)

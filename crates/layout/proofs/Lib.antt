@@ -1,0 +1,5 @@
+pub mod CardLaws
+pub mod Reading
+pub mod Checking
+pub mod Charts
+pub mod Table

@@ -1,0 +1,141 @@
+-- What Read's number says of derivations: 0 and 25 come only after every refusal before them is ruled out, and there the item of
+-- the start over the whole line is among the computed items exactly when the line has a derivation.
+use Prim.Native.Nat.{ℕ, _≤_, _*_}
+use native.Mathlib.Omega.{arith}
+use mathlib.Core.Path.{_≡_, refl, sym, _∙_, ap, subst}
+use mathlib.Core.Bool.{Bool, true, false, cond, false≢true}
+use mathlib.Core.List.{List, map}
+use lib.Dec.{eqb, leb, ltb}
+use lib.ListN.{length, length-map}
+use borrow.Author.Tests.{eqb-true, eqb-false, eq-eqb, le-ltb, ltb-false}
+use Rattle.grammar.specs.Rewriting.{Derivation}
+use Rattle.grammar.specs.Input.{Holds, Below, wordIs}
+use Rattle.grammar.specs.Items.{bare, Derived}
+use Rattle.grammar.specs.ItemList.{item, items, among}
+use Rattle.grammar.proofs.InputLaws.{words-below}
+use Rattle.grammar.proofs.ItemListExact.{items-sound, items-complete, among-true, among-mem}
+use Rattle.grammar.proofs.Existence.{derivation-item, item-derivation}
+use Rattle.layout.specs.Bytes.{check, allBytes}
+use Rattle.layout.specs.Card.{grammarOf, markFits, countsFit, lengthsFit, entriesFit, entriesDiffer, productionsFit, cardNumber}
+use Rattle.layout.specs.Line.{wordsOf, numbersOf, numberOfWord, orZero, isLineByte, mostWords, allKnown, lineNumber}
+use Rattle.layout.specs.Records.{capacity}
+use Rattle.layout.specs.Steps.{planRoom, planSteps}
+use Rattle.layout.specs.Answers.{inputNumber, wordsIn, lineTest, derivable, ReadAnswer, refusal, found, chartAnswer, readAnswer}
+
+-- Room enough: the condition of neither 31 nor 32 holds.
+pub record RoomEnough (card line : List ℕ) (chartRoom room : ℕ) : Type 0 where
+  pub planFits : planRoom (wordsIn line) ≤ room
+  pub chartFits : length (derivable card line) ≤ capacity chartRoom
+
+-- The line has a derivation under the card.
+abbrev pub HasDerivation : List ℕ → List ℕ → Type 0
+HasDerivation card line = Derivation (grammarOf card) (numbersOf card line)
+
+pub count-numbers : (card line : List ℕ) → length (numbersOf card line) ≡ wordsIn line
+count-numbers card line = length-map (wordsOf line) (λ word. orZero (numberOfWord card word))
+
+pub line-below : (card line : List ℕ) → Below (Holds (lineTest card line)) (wordsIn line)
+line-below card line = subst (Below (Holds (lineTest card line))) (count-numbers card line) (words-below (numbersOf card line))
+
+-- Is the item of the start over the whole line derivable?
+
+abbrev pub startFound : List ℕ → List ℕ → Bool
+startFound card line = among (item 0 0 (wordsIn line) bare) (derivable card line)
+
+pub found-derivation : (card line : List ℕ) → startFound card line ≡ true → HasDerivation card line
+found-derivation card line e =
+    let n = wordsIn line in
+    let g = grammarOf card in
+    let d = items-sound g (lineTest card line) n 0 0 n bare (among-true (item 0 0 n bare) (derivable card line) e) in
+    item-derivation g (numbersOf card line)
+    (subst (λ (m : ℕ). Derived g (Holds (lineTest card line)) 0 0 m bare) (sym (count-numbers card line)) d)
+
+pub derivation-found : (card line : List ℕ) → HasDerivation card line → startFound card line ≡ true
+derivation-found card line d =
+    let n = wordsIn line in
+    let g = grammarOf card in
+    let i = subst (λ (m : ℕ). Derived g (Holds (lineTest card line)) 0 0 m bare) (count-numbers card line)
+    (derivation-item g (numbersOf card line) d) in
+    among-mem (items-complete g (lineTest card line) n (line-below card line) 0 0 n bare i)
+
+-- No refusal of a card or a line is 25.
+abbrev Other : ℕ → Type 0
+Other x = x ≡ 25 → ⊥
+
+other : (x : ℕ) (b : Bool) {y : ℕ} → Other x → Other y → Other (check b x y)
+other x true h k = k
+other x false h k = h
+
+card-other : (card : List ℕ) → Other (cardNumber card)
+card-other card =
+    other 11 (markFits card) (omega arith)
+    (other 12 (countsFit card) (omega arith)
+    (other 13 (lengthsFit card) (omega arith)
+    (other 14 (entriesFit card) (omega arith)
+    (other 15 (entriesDiffer card) (omega arith) (other 16 (productionsFit card) {y = 0} (omega arith) (omega arith))))))
+
+line-other : (card line : List ℕ) → Other (lineNumber card line)
+line-other card line =
+    let words = wordsOf line in
+    other 22 (allBytes isLineByte line) (omega arith)
+    (other 21 (leb 1 (length words)) (omega arith)
+    (other 23 (leb (length words) mostWords) (omega arith)
+    (other 24 (allKnown card words) {y = 0} (omega arith) (omega arith))))
+
+input-other : (card line : List ℕ) → Other (inputNumber card line)
+input-other card line = other (cardNumber card) (eqb (cardNumber card) 0) (card-other card) (line-other card line)
+
+-- What an answer with a number v says that is neither 32 nor a refusal of the card or the line: every refusal before the chart's is
+-- ruled out.
+decided : (b r : Bool) (x v : ℕ) (answer : ReadAnswer) → (x ≡ v → b ≡ true) → (v ≡ 32 → ⊥)
+    → cond b (cond r (refusal 32) answer) (refusal x) .number ≡ v → (b ≡ true) × (r ≡ false) × (answer .number ≡ v)
+decided false r x v answer f g e = absurd (false≢true (f e))
+decided true true x v answer f g e = absurd (g (sym e))
+decided true false x v answer f g e = (refl, refl, e)
+
+-- The same for the chart's two numbers: they say whether the start was found.
+charted : (b f : Bool) (n count v : ℕ) → (v ≡ 31 → ⊥) → cond b (refusal 31) (found f n count) .number ≡ v
+    → (b ≡ false) × (found f n count .number ≡ v)
+charted true f n count v h e = absurd (h (sym e))
+charted false f n count v h e = (refl, e)
+
+found-zero : (f : Bool) (n count : ℕ) → found f n count .number ≡ 0 → f ≡ true
+found-zero true n count e = refl
+found-zero false n count e = absurd (omega arith)
+
+found-none : (f : Bool) (n count : ℕ) → found f n count .number ≡ 25 → f ≡ false
+found-none true n count e = absurd (omega arith)
+found-none false n count e = refl
+
+module _ (card line : List ℕ) (chartRoom room : ℕ) where
+  -- A number v that is no refusal before the chart's own two.
+  reached : (v : ℕ) → (inputNumber card line ≡ v → inputNumber card line ≡ 0) → (v ≡ 31 → ⊥) → (v ≡ 32 → ⊥)
+      → readAnswer card line chartRoom room .number ≡ v
+      → (inputNumber card line ≡ 0) × RoomEnough card line chartRoom room
+      × (found (startFound card line) (wordsIn line) (length (derivable card line)) .number ≡ v)
+  reached v f h k e =
+      let n = wordsIn line in
+      let all = derivable card line in
+      let (e₀, e₁, e₂) = decided (eqb (inputNumber card line) 0) (ltb room (planRoom n)) (inputNumber card line) v
+      (chartAnswer n chartRoom all) (λ x. eq-eqb (inputNumber card line) 0 (f x)) k e in
+      let (e₃, e₄) = charted (ltb (capacity chartRoom) (length all)) (startFound card line) n (length all) v h e₂ in
+      (eqb-true (inputNumber card line) 0 e₀, record { planFits = ltb-false _ _ e₁; chartFits = ltb-false _ _ e₃ }, e₄)
+
+  -- "Read" comes with a derivation.
+  pub read-derivation : readAnswer card line chartRoom room .number ≡ 0 → HasDerivation card line
+  read-derivation e =
+      let (_, _, e′) = reached 0 (λ x. x) (omega arith) (omega arith) e in
+      found-derivation card line (found-zero (startFound card line) _ _ e′)
+
+  -- A line that gets 25 has none, whatever room was lent.
+  pub no-reading : readAnswer card line chartRoom room .number ≡ 25 → HasDerivation card line → ⊥
+  no-reading e d =
+      let (_, _, e′) = reached 25 (λ x. absurd (input-other card line x)) (omega arith) (omega arith) e in
+      false≢true (sym (found-none (startFound card line) _ _ e′) ∙ derivation-found card line d)
+
+  -- An accepted card, a line of 1 to 24 known words, room enough and a derivation: it is read.
+  pub derivation-read : inputNumber card line ≡ 0 → RoomEnough card line chartRoom room → HasDerivation card line
+      → readAnswer card line chartRoom room
+      ≡ record { number = 0; words = wordsIn line; items = length (derivable card line); steps = planSteps (wordsIn line) }
+  derivation-read e enough d =
+      simp (eq-eqb _ _ e, le-ltb _ _ (enough .planFits), le-ltb _ _ (enough .chartFits), derivation-found card line d)

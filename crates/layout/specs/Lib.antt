@@ -1,0 +1,7 @@
+pub mod Bytes
+pub mod Card
+pub mod Line
+pub mod Records
+pub mod Steps
+pub mod Answers
+pub mod Tomato
