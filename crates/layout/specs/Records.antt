@@ -1,11 +1,13 @@
--- Document 01, "The chart": a record's 16 bytes, and how many records a room holds.
-use Prim.Native.Nat.{ℕ, _/_, min}
-use mathlib.Core.List.{List, [], _∷_}
+-- Document 01, "The chart": a record's 16 bytes, written and read, and how many records a room holds.
+use Prim.Native.Nat.{ℕ, _+_, _*_, _/_, min}
+use mathlib.Core.Bool.{cond}
+use mathlib.Core.List.{List, [], _∷_, map}
+use lib.Dec.{eqb}
 use Rattle.grammar.specs.Lists.{concatMap}
-use Rattle.grammar.specs.Items.{bare, foot}
+use Rattle.grammar.specs.Items.{Foot, bare, foot}
 use Rattle.grammar.specs.ItemList.{item}
 use Rattle.grammar.specs.Chart.{Record, recorded}
-use Rattle.layout.specs.Bytes.{lowByte, highByte}
+use Rattle.layout.specs.Bytes.{byteAt, wordAt, lowByte, highByte, counted}
 
 -- A, γ, i, j, B (255 for none), p, q, production; the positions of side, dependent and continuation, low byte first; two zeros.
 abbrev pub recordBytes : Record → List ℕ
@@ -18,6 +20,22 @@ recordBytes (recorded (item A i j (foot γ B p q)) production x y z) =
 
 abbrev pub chartBytes : List Record → List ℕ
 chartBytes c = concatMap recordBytes c
+
+-- The same read back: γ = 0 is no foot. The record at position m, and the first count of them.
+abbrev pub footOf : ℕ → ℕ → ℕ → ℕ → Foot
+footOf γ B p q = cond (eqb γ 0) bare (foot γ B p q)
+
+abbrev pub footThere : List ℕ → ℕ → Foot
+footThere bytes m = let at = 16 * m in
+    footOf (byteAt bytes (at + 1)) (byteAt bytes (at + 4)) (byteAt bytes (at + 5)) (byteAt bytes (at + 6))
+
+abbrev pub recordAt : List ℕ → ℕ → Record
+recordAt bytes m = let at = 16 * m in
+    recorded (item (byteAt bytes at) (byteAt bytes (at + 2)) (byteAt bytes (at + 3)) (footThere bytes m))
+    (byteAt bytes (at + 7)) (wordAt bytes (at + 8)) (wordAt bytes (at + 10)) (wordAt bytes (at + 12))
+
+abbrev pub chartIn : List ℕ → ℕ → List Record
+chartIn bytes count = map (recordAt bytes) (counted 0 count)
 
 abbrev pub recordLength : ℕ
 recordLength = 16

@@ -1,0 +1,130 @@
+-- Laws of the tests of `layout`'s definitions, over plain lists and numbers: a test of all holds where each one holds, and
+-- does not where some one does not. The proofs of the functions cite them at what their loops have shown.
+use Prim.Native.Nat.{ℕ, zero, suc, _+_, _-_, _<_, _≤_}
+use native.Mathlib.Omega.{arith}
+use native.Mathlib.Decide.{ℕ-discrete}
+use mathlib.Core.Path.{_≡_, refl, sym, _∙_, ap}
+use mathlib.Core.Bool.{Bool, true, false, not, _&&_, false≢true}
+use mathlib.Core.List.{List, [], _∷_}
+use borrow.Author.Tests.{not-true, not-false, leb-true, eq-eqb, ne-eqb}
+use lib.Dec.{eqb, leb}
+use lib.ListN.{length, getD, take, drop}
+use lib.Seq.{take-nil, drop-drop}
+use native.Mathlib.Nat.{sub-zero, zero-sub, suc-sub-suc, add-sub-cancel-left}
+use Rattle.layout.specs.Bytes.{byteAt, isLetter, sameBytes, allBytes, allBelow}
+use Rattle.layout.specs.Card.{entryAt, entryOf, entryFits, within}
+
+-- A test that was made by a function: its answer t is the definition's b.
+pub refused : {t b : Bool} → t ≡ b → not t ≡ true → b ≡ false
+refused {t} e h = sym e ∙ not-true t h
+
+pub passed : {t b : Bool} → t ≡ b → not t ≡ false → b ≡ true
+passed {t} e h = sym e ∙ not-false t h
+
+-- A later part that does not hold.
+no-later : (t : Bool) {b : Bool} → false ≡ b → false ≡ (t && b)
+no-later true h = h
+no-later false h = refl
+
+-- Of every byte.
+pub all-bytes : (test : ℕ → Bool) (l : List ℕ) → ((k : ℕ) → k < length l → test (getD l k 0) ≡ true) → true ≡ allBytes test l
+all-bytes test [] h = refl
+all-bytes test (b ∷ l) h = rw (h 0 (omega arith)) (all-bytes test l λ k lt. h (suc k) (omega arith))
+
+pub some-byte : (test : ℕ → Bool) (l : List ℕ) (k : ℕ) → k < length l → test (getD l k 0) ≡ false → false ≡ allBytes test l
+some-byte test [] k lt h = absurd (omega arith)
+some-byte test (b ∷ l) zero lt h = rw h
+some-byte test (b ∷ l) (suc k) lt h = no-later (test b) (some-byte test l k (omega arith) h)
+
+-- Of two lists byte by byte.
+pub same-all : (a b : List ℕ) → length a ≡ length b → ((k : ℕ) → k < length a → getD a k 0 ≡ getD b k 0) → true ≡ sameBytes a b
+same-all [] [] e h = refl
+same-all [] (y ∷ b) e h = absurd (omega arith)
+same-all (x ∷ a) [] e h = absurd (omega arith)
+same-all (x ∷ a) (y ∷ b) e h =
+    rw (eq-eqb x y (h 0 (omega arith))) (same-all a b (omega arith) λ k lt. h (suc k) (omega arith))
+
+pub same-not : (a b : List ℕ) (k : ℕ) → k < length a → (getD a k 0 ≡ getD b k 0 → ⊥) → false ≡ sameBytes a b
+same-not [] b k lt h = absurd (omega arith)
+same-not (x ∷ a) [] k lt h = refl
+same-not (x ∷ a) (y ∷ b) zero lt h = rw (ne-eqb x y h)
+same-not (x ∷ a) (y ∷ b) (suc k) lt h = no-later (eqb x y) (same-not a b k (omega arith) h)
+
+pub same-length : (a b : List ℕ) → (length a ≡ length b → ⊥) → false ≡ sameBytes a b
+same-length [] [] h = absurd (h refl)
+same-length [] (y ∷ b) h = refl
+same-length (x ∷ a) [] h = refl
+same-length (x ∷ a) (y ∷ b) h = no-later (eqb x y) (same-length a b λ e. h (ap suc e))
+
+-- Of every number below n.
+pub all-below : (n : ℕ) (test : ℕ → Bool) → ((v : ℕ) → v < n → test v ≡ true) → true ≡ allBelow n test
+all-below zero test h = refl
+all-below (suc n) test h = rw (h n (omega arith)) (all-below n test λ v lt. h v (omega arith))
+
+pub some-below : (n : ℕ) (test : ℕ → Bool) (v : ℕ) → v < n → test v ≡ false → false ≡ allBelow n test
+some-below zero test v lt h = absurd (omega arith)
+some-below (suc n) test v lt h =
+    elim (ℕ-discrete v n) [ yes e ↦ rw (← e, h) | no ne ↦ no-later (test n) (some-below n test v (omega arith) h) ]
+
+pub below-all : (n : ℕ) (test : ℕ → Bool) → allBelow n test ≡ true → (v : ℕ) → v < n → test v ≡ true
+below-all n test h v lt = go (test v) refl
+  where
+    go : (t : Bool) → test v ≡ t → t ≡ true
+    go true e = refl
+    go false e = some-below n test v lt e ∙ h
+
+-- A production's bytes, read at a place that is its place, and one by one.
+pub byte-from : (card : List ℕ) (at place k : ℕ) {b : ℕ} → at ≡ place → b ≡ byteAt card (at + k) → b ≡ byteAt card (place + k)
+byte-from card at place k e h = rw (← e) h
+
+pub five-same : {A : Type 0} (f : ℕ → ℕ → ℕ → ℕ → ℕ → A) {x : A} {kind kind′ a a′ b b′ c c′ g g′ : ℕ} → x ≡ f kind a b c g
+    → kind ≡ kind′ → a ≡ a′ → b ≡ b′ → c ≡ c′ → g ≡ g′ → x ≡ f kind′ a′ b′ c′ g′
+five-same f h h0 h1 h2 h3 h4 = rw (h0, h1, h2, h3, h4) at h
+
+-- A word entry, as the parts of the card that the code looks at.
+drop-take : (m n : ℕ) (l : List ℕ) → drop m (take n l) ≡ take (n - m) (drop m l)
+drop-take zero n l = rw sub-zero
+drop-take (suc m) n [] = rw (take-nil n, take-nil)
+drop-take (suc m) zero (b ∷ l) = rw zero-sub
+drop-take (suc m) (suc n) (b ∷ l) = rw suc-sub-suc (drop-take m n l)
+
+pub entry-part : (card : List ℕ) (v at : ℕ) → at ≡ entryAt v → take (at + 12 - at) (drop at card) ≡ entryOf card v
+entry-part card v at e = rw (add-sub-cancel-left, e)
+
+spelling-part : (card : List ℕ) (at n : ℕ) → take (at + 1 + n - (at + 1)) (drop (at + 1) card) ≡ take n (drop (at + 1) card)
+spelling-part card at n = rw add-sub-cancel-left
+
+padding-part : (card : List ℕ) (at n : ℕ)
+    → take (at + 12 - (at + 1 + n)) (drop (at + 1 + n) card) ≡ drop (1 + n) (take 12 (drop at card))
+padding-part card at n =
+    let size : at + 12 - (at + 1 + n) ≡ 12 - (1 + n) = omega arith in
+    let place : at + 1 + n ≡ at + (1 + n) = omega arith in
+    rw (drop-take, drop-drop, size, place)
+
+entry-parts : (card : List ℕ) (v at n : ℕ) → at ≡ entryAt v → n ≡ byteAt card at
+    → (within 1 11 n
+    && (allBytes isLetter (take (at + 1 + n - (at + 1)) (drop (at + 1) card))
+    && allBytes (eqb 0) (take (at + 12 - (at + 1 + n)) (drop (at + 1 + n) card))))
+    ≡ entryFits card v
+entry-parts card v at n e h = rw (spelling-part, padding-part, h, e)
+
+-- An entry that starts at `at` and has the length byte n: what its parts say of it.
+module _ (card : List ℕ) (v at n : ℕ) (place : at ≡ entryAt v) (length-byte : n ≡ byteAt card at) where
+  pub entry-size : within 1 11 n ≡ false → false ≡ entryFits card v
+  entry-size size = rw size at (entry-parts card v at n place length-byte)
+
+  pub entry-spelling : within 1 11 n ≡ true → allBytes isLetter (take (at + 1 + n - (at + 1)) (drop (at + 1) card)) ≡ false
+      → false ≡ entryFits card v
+  entry-spelling size letters = rw (size, letters) at (entry-parts card v at n place length-byte)
+
+  pub entry-padding : within 1 11 n ≡ true → allBytes isLetter (take (at + 1 + n - (at + 1)) (drop (at + 1) card)) ≡ true
+      → allBytes (eqb 0) (take (at + 12 - (at + 1 + n)) (drop (at + 1 + n) card)) ≡ entryFits card v
+  entry-padding size letters = rw (size, letters) at (entry-parts card v at n place length-byte)
+
+-- What a test of a number's limits says.
+pub within-most : (low high x : ℕ) → within low high x ≡ true → x ≤ high
+within-most low high x h = leb-true x high (go (leb low x) h)
+  where
+    go : (t : Bool) → (t && leb x high) ≡ true → leb x high ≡ true
+    go true e = e
+    go false e = absurd (false≢true e)

@@ -1,0 +1,88 @@
+-- `name`: past the refusals the word is known, so its entry lies inside the card and its length is at most 11.
+-- The part from the entry's second byte, of that length, is the spelling.
+use native.Mathlib.Omega.{arith}
+use mathlib.Core.Path.{_≡_, sym, _∙_}
+use borrow.Author.Needs.{needs}
+use denote.Ref.{now}
+use Rattle.layout.specs.Answers.{nameNumber}
+use Rattle.layout.specs.Card.{spellingLength}
+use Rattle.card.proofs.Accepted.{Known, known-word, size-at, name-part, no-part}
+use Rattle.card.proofs.name.Statement.{statement}
+use Rattle.card.proofs.name.Tie as tie
+
+-- Past the refusals the word is known, and the number read is the length of its spelling.
+zero : (c : tie.Else1) → nameNumber (now (c .before .before .before .args .card)) (c .before .before .before .args .word) ≡ 0
+zero c = sym (c .before .name-number .ensures) ∙ c .if1 .left
+
+known : (c : tie.Else1) → Known (now (c .before .before .before .args .card)) (c .before .before .before .args .word)
+known c = known-word (now (c .before .before .before .args .card)) (c .before .before .before .args .word) (zero c)
+
+size : (c : tie.After-wide) → let a = c .before .before .before .before .before .before .args in
+    c .wide .result ≡ spellingLength (now (a .card)) (a .word)
+size c =
+    let a = c .before .before .before .before .before .before .args in
+    let entry = c .before .before .entry-at in
+    size-at (now (a .card)) (a .word) (entry .result) (entry .ensures) (c .before .byte .ensures) (c .wide .ensures .0)
+
+name-number-requires : tie.Need-name-number-requires
+name-number-requires c κs = search needs
+
+slice-aggregate-result : tie.Need-slice-aggregate-result
+slice-aggregate-result c = search needs
+
+returns : tie.Need-returns
+returns c =
+    let a = c .before .before .before .before .args in
+    no-part (now (a .card)) (a .word) λ e. c .before .if1 .taken (c .before .before .name-number .ensures ∙ e)
+
+entry-at-requires : tie.Need-entry-at-requires
+entry-at-requires c κs = let h = known c in omega arith
+
+add-from : tie.Need-add-from
+add-from c = search needs
+
+add-to : tie.Need-add-to
+add-to c = search needs
+
+byte-requires : tie.Need-byte-requires
+byte-requires c κs = search needs
+
+wide-requires : tie.Need-wide-requires
+wide-requires c κs = search needs
+
+add-to-2 : tie.Need-add-to-2
+add-to-2 c = let h = known (c .before .before .before) in omega arith
+
+sub-result : tie.Need-sub-result
+sub-result c = search needs
+
+part-result-start : tie.Need-part-result-start
+part-result-start c = search needs
+
+part-result-end : tie.Need-part-result-end
+part-result-end c = let h = known (c .before .before .before) in let n = size c in omega arith
+
+returns-2 : tie.Need-returns-2
+returns-2 c =
+    let a = c .before .before .before .before .before .before .before .args in
+    let entry = c .before .before .before .entry-at in
+    let read = c .before in
+    name-part (now (a .card)) (a .word) (entry .result) (read .wide .result) (zero (c .before .before .before .before)) (entry .ensures) (size read)
+
+pub name-spec : {M : Type 1} → statement M
+name-spec =
+    tie.close
+    (tie.spec
+    name-number-requires
+    slice-aggregate-result
+    returns
+    entry-at-requires
+    add-from
+    add-to
+    byte-requires
+    wide-requires
+    add-to-2
+    sub-result
+    part-result-start
+    part-result-end
+    returns-2)

@@ -1,0 +1,193 @@
+// The card: its type, the check of its bytes, its productions and the names of its words (document 01, "The card").
+// A byte past the end of a card reads as 0, so every function here takes any bytes of any length.
+pub mod bytes;
+mod entries;
+mod header;
+mod productions;
+
+use bytes::byte;
+use bytes::wide;
+use bytes::within;
+ghost use mathlib.Core.Path.{_≡_};
+ghost use Prim.Native.Nat.{_<_, _+_, _*_};
+ghost use Rattle.layout.specs.Card.{entryAt, production, cardNumber};
+ghost use Rattle.layout.specs.Answers.{nameNumber, namePart};
+ghost use Rattle.card.specs.Counts.{CountsOf, countsWithin};
+ghost use Rattle.card.specs.Productions.{ruleFrom};
+
+// The four counts of a card. The limits and the places of its tables belong to this type.
+pub struct Card {
+    pub nonterminals: usize,
+    pub words: usize,
+    pub indices: usize,
+    pub productions: usize,
+}
+
+impl Card {
+    pub const MAX_NONTERMINALS: usize = 16;
+
+    pub const MAX_WORDS: usize = 32;
+
+    pub const MAX_INDICES: usize = 8;
+
+    pub const MAX_PRODUCTIONS: usize = 64;
+
+    // Bytes in the header, in a word entry and in a production, and where the word table starts.
+    pub const HEADER: usize = 12;
+
+    pub const ENTRY: usize = 12;
+
+    pub const PRODUCTION: usize = 6;
+
+    pub const WORD_TABLE: usize = 12;
+
+    pub fn of(card: &[u8]) -> Card
+        ensures { λ r. ⌜ CountsOf (now (card .entry)) r ⌝ }
+    {
+        Card {
+            nonterminals: wide(byte(card, 4)),
+            words: wide(byte(card, 5)),
+            indices: wide(byte(card, 6)),
+            productions: wide(byte(card, 7)),
+        }
+    }
+
+    // Refusal 12 asks this.
+    pub fn counts_fit(self) -> bool
+        ensures { λ r. ⌜ r ≡ countsWithin (self .nonterminals) (self .words) (self .indices) (self .productions) ⌝ }
+    {
+        if !within(1, Self::MAX_NONTERMINALS, self.nonterminals) {
+            return false;
+        }
+        if !within(1, Self::MAX_WORDS, self.words) {
+            return false;
+        }
+        if !within(0, Self::MAX_INDICES, self.indices) {
+            return false;
+        }
+        within(1, Self::MAX_PRODUCTIONS, self.productions)
+    }
+
+    // Where entry v starts.
+    fn entry_at(v: usize) -> usize
+        requires { ⌜ v < 256 ⌝ }
+        ensures { λ r. ⌜ r ≡ entryAt v ⌝ }
+    {
+        Self::WORD_TABLE + Self::ENTRY * v
+    }
+
+    fn production_table(self) -> usize
+        requires { ⌜ self .words < 256 ⌝ }
+        ensures { λ r. ⌜ r ≡ 12 + 12 * self .words ⌝ }
+    {
+        Self::WORD_TABLE + Self::ENTRY * self.words
+    }
+
+    // Where production m starts.
+    fn production_at(self, m: usize) -> usize
+        requires { ⌜ (self .words < 256) × (m < 256) ⌝ }
+        ensures { λ r. ⌜ r ≡ 12 + 12 * self .words + 6 * m ⌝ }
+    {
+        self.production_table() + Self::PRODUCTION * m
+    }
+
+    // Where the last production ends.
+    fn length(self) -> usize
+        requires { ⌜ (self .words < 256) × (self .productions < 256) ⌝ }
+        ensures { λ r. ⌜ r ≡ 12 + 12 * self .words + 6 * self .productions ⌝ }
+    {
+        self.production_at(self.productions)
+    }
+}
+
+// What a production does with the stack.
+pub enum Action {
+    Take(u8),
+    Keep,
+    Give(u8),
+}
+
+// A word, or two elements, the side first or last.
+pub enum Production {
+    Word {
+        left: u8,
+        word: u8,
+    },
+    SideFirst {
+        left: u8,
+        action: Action,
+        side: u8,
+        dependent: u8,
+    },
+    SideLast {
+        left: u8,
+        action: Action,
+        dependent: u8,
+        side: u8,
+    },
+}
+
+// Refusals 11 to 16 in their order, each over the whole card; 0 where the card is accepted.
+pub fn card_number(card: &[u8]) -> u64
+    ensures { λ r. ⌜ r ≡ cardNumber (now (card .entry)) ⌝ }
+{
+    if !header::mark_fits(card) {
+        return 11;
+    }
+    if !Card::of(card).counts_fit() {
+        return 12;
+    }
+    if !header::lengths_fit(card) {
+        return 13;
+    }
+    // These three look at the whole card whatever the others find: the order of refusals stands here alone.
+    let fit = entries::entries_fit(card);
+    let differ = entries::entries_differ(card);
+    let table = productions::productions_fit(card);
+    if !fit {
+        return 14;
+    }
+    if !differ {
+        return 15;
+    }
+    if !table {
+        return 16;
+    }
+    0
+}
+
+// Production m of any bytes.
+pub fn decode(card: &[u8], m: u8) -> Production
+    ensures { λ r. ⌜ ruleFrom r ≡ production (now (card .entry)) m ⌝ }
+{
+    let f = productions::fields_of(card, wide(m));
+    productions::production_of(f.kind, f.a, f.b, f.c, f.g)
+}
+
+// The card's refusals, then 35 for a word that the card does not have.
+pub fn name_number(card: &[u8], word: usize) -> u64
+    ensures { λ r. ⌜ r ≡ nameNumber (now (card .entry)) word ⌝ }
+{
+    let number = card_number(card);
+    let words = Card::of(card).words;
+    if number != 0 {
+        return number;
+    }
+    if words <= word {
+        return 35;
+    }
+    0
+}
+
+// The spelling as the card's own bytes; empty on a refusal.
+pub fn name(card: &[u8], word: usize) -> &[u8]
+    ensures { λ r. ⌜ now r ≡ namePart (now (card .entry)) word ⌝ }
+{
+    if name_number(card, word) != 0 {
+        return &card[..0];
+    }
+    let at = Card::entry_at(word);
+    let from = at + 1;
+    let to = at + 1 + wide(byte(card, at));
+    &card[from..to]
+}

@@ -1,0 +1,156 @@
+// Refusal 16: each production by the table of kinds; and what its six bytes mean.
+use crate::Action;
+use crate::Card;
+use crate::Production;
+use crate::bytes::byte;
+use crate::bytes::within;
+ghost use mathlib.Core.Path.{_≡_};
+ghost use Prim.Native.Nat.{_<_};
+ghost use Rattle.layout.specs.Card.{ruleOf, wordProductionFits, indexFits, pairFits, kindFits, productionFits, productionsFit};
+ghost use Rattle.card.specs.Productions.{ruleFrom, FieldsOf};
+
+// The six bytes of a production.
+pub struct Fields {
+    pub kind: u8,
+    pub a: u8,
+    pub b: u8,
+    pub c: u8,
+    pub g: u8,
+    pub last: u8,
+}
+
+pub fn fields_of(card: &[u8], m: usize) -> Fields
+    requires { ⌜ m < 256 ⌝ }
+    ensures { λ r. ⌜ FieldsOf (now (card .entry)) m r ⌝ }
+{
+    let at = Card::of(card).production_at(m);
+    Fields {
+        kind: byte(card, at),
+        a: byte(card, at + 1),
+        b: byte(card, at + 2),
+        c: byte(card, at + 3),
+        g: byte(card, at + 4),
+        last: byte(card, at + 5),
+    }
+}
+
+pub fn word_production_fits(card: &[u8], a: u8, b: u8, c: u8, g: u8) -> bool
+    ensures { λ r. ⌜ r ≡ wordProductionFits (now (card .entry)) a b c g ⌝ }
+{
+    let counts = Card::of(card);
+    if counts.nonterminals <= a as usize {
+        return false;
+    }
+    if counts.words <= b as usize {
+        return false;
+    }
+    if c != 0 {
+        return false;
+    }
+    g == 0
+}
+
+// An index where one is due; kinds 3 and 4 keep the stack and have none.
+pub fn index_fits(card: &[u8], kind: u8, g: u8) -> bool
+    ensures { λ r. ⌜ r ≡ indexFits (now (card .entry)) kind g ⌝ }
+{
+    if kind == 3 {
+        return g == 0;
+    }
+    if kind == 4 {
+        return g == 0;
+    }
+    within(1, Card::of(card).indices, g as usize)
+}
+
+pub fn pair_fits(card: &[u8], a: u8, b: u8, c: u8, index: bool) -> bool
+    ensures { λ r. ⌜ r ≡ pairFits (now (card .entry)) a b c index ⌝ }
+{
+    let count = Card::of(card).nonterminals;
+    if count <= a as usize {
+        return false;
+    }
+    if count <= b as usize {
+        return false;
+    }
+    if count <= c as usize {
+        return false;
+    }
+    index
+}
+
+pub fn kind_fits(card: &[u8], kind: u8, a: u8, b: u8, c: u8, g: u8) -> bool
+    ensures { λ r. ⌜ r ≡ kindFits (now (card .entry)) kind a b c g ⌝ }
+{
+    if 6 < kind {
+        return false;
+    }
+    if kind == 0 {
+        return word_production_fits(card, a, b, c, g);
+    }
+    pair_fits(card, a, b, c, index_fits(card, kind, g))
+}
+
+pub fn production_fits(card: &[u8], m: usize) -> bool
+    requires { ⌜ m < 256 ⌝ }
+    ensures { λ r. ⌜ r ≡ productionFits (now (card .entry)) m ⌝ }
+{
+    let f = fields_of(card, m);
+    if f.last != 0 {
+        return false;
+    }
+    kind_fits(card, f.kind, f.a, f.b, f.c, f.g)
+}
+
+pub fn productions_fit(card: &[u8]) -> bool
+    ensures { λ r. ⌜ r ≡ productionsFit (now (card .entry)) ⌝ }
+{
+    let count = Card::of(card).productions;
+    let mut m = 0;
+    while m < count {
+        if !production_fits(card, m) {
+            return false;
+        }
+        m += 1;
+    }
+    true
+}
+
+// B is the side and C the dependent.
+fn side_first(left: u8, action: Action, b: u8, c: u8) -> Production
+    ensures { λ r. ⌜ r ≡ Production.SideFirst left action b c ⌝ }
+{
+    Production::SideFirst {
+        left,
+        action,
+        side: b,
+        dependent: c,
+    }
+}
+
+// B is the dependent and C the side.
+fn side_last(left: u8, action: Action, b: u8, c: u8) -> Production
+    ensures { λ r. ⌜ r ≡ Production.SideLast left action b c ⌝ }
+{
+    Production::SideLast {
+        left,
+        action,
+        dependent: b,
+        side: c,
+    }
+}
+
+// The table of kinds; any kind above 5 reads as 6.
+pub fn production_of(kind: u8, left: u8, b: u8, c: u8, g: u8) -> Production
+    ensures { λ r. ⌜ ruleFrom r ≡ ruleOf kind left b c g ⌝ }
+{
+    match kind {
+        0 => Production::Word { left, word: b },
+        1 => side_first(left, Action::Take(g), b, c),
+        2 => side_last(left, Action::Take(g), b, c),
+        3 => side_first(left, Action::Keep, b, c),
+        4 => side_last(left, Action::Keep, b, c),
+        5 => side_first(left, Action::Give(g), b, c),
+        _ => side_last(left, Action::Give(g), b, c),
+    }
+}

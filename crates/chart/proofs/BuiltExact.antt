@@ -1,0 +1,136 @@
+-- From the code's end to the promise: tables of zeros are the start of the model's fold, and the model's result is a chart exactly when
+-- the derivable items fit the room.
+use Prim.Native.Nat.{ℕ, zero, suc, _+_, _*_, _≤_, _<_}
+use native.Mathlib.Omega.{arith}
+use native.Mathlib.Nat.{le-trans, mul-le-mul-left, mul-le-mul-right}
+use mathlib.Core.Path.{_≡_, refl, sym, _∙_, ap, subst, subst₂}
+use mathlib.Core.List.{List, [], _∷_, _++_, map}
+use mathlib.Core.Option.{Option, none, some}
+use lib.ListN.{length, take, drop, getD, replicate, length-take, length-replicate}
+use Rattle.grammar.specs.Rewriting.{Rule}
+use Rattle.grammar.specs.Input.{Holds, Below, wordIs}
+use Rattle.grammar.specs.ItemList.{items}
+use Rattle.grammar.specs.Chart.{Record, IsChart}
+use Rattle.grammar.proofs.InputLaws.{words-below}
+use Rattle.layout.specs.Card.{nonterminalCount, productionCount, grammarOf, cardNumber}
+use Rattle.layout.specs.Records.{chartBytes, capacity}
+use Rattle.layout.proofs.CardLaws.{card-one-sided}
+use Rattle.card.specs.declared.Production.{Production}
+use Rattle.chart_model.specs.Build.{build}
+use Rattle.chart_model.proofs.Exact.{build-chart, build-room, build-none}
+use Rattle.chart.specs.declared.Built.{Built}
+use Rattle.chart.specs.declared.Built.the-variants.{Chart, TooMany}
+use Rattle.chart.specs.Tables.{grammarIn}
+use Rattle.chart.specs.Fill.{Between, Closed}
+use Rattle.chart.specs.Built.{Buildable, RoomLent, TablesLent, DecodedAll, BuiltRoom}
+use Rattle.chart.proofs.SetLaws.{zero-at}
+use Rattle.chart.proofs.FillLaws.{start-between}
+use Rattle.chart.proofs.CardFits.{counts-fit, lefts-below}
+
+all-zero : (l : List ℕ) → l ≡ replicate (length l) 0 → (k : ℕ) → getD l k 0 ≡ 0
+all-zero l e k = ap (λ (m : List ℕ). getD m k 0) e ∙ zero-at (length l) k
+
+pub tables-start : {g : List Rule} (card words : List ℕ) (n room : ℕ) {chart marks index sets : List ℕ} → Buildable card words n
+    → RoomLent room chart → TablesLent n marks index sets → Between g n (nonterminalCount card) room chart marks index sets 0
+tables-start card words n room {marks = marks} {index = index} b l t =
+    let N = nonterminalCount card in
+    let most : N ≤ 16 = counts-fit card (b .accepted) .symbols .1 in
+    let marksFit : N * n * n ≤ 16 * n * n = mul-le-mul-right n (mul-le-mul-right n most) in
+    let indexFit : n * n * N ≤ n * n * 16 = mul-le-mul-left (n * n) most in
+    start-between (b .short) most (l .small) (l .there) (omega (arith, t .marksThere)) (omega (arith, t .indexThere)) (t .setsThere)
+    (all-zero marks (t .marksZero)) (all-zero index (t .indexZero))
+
+-- Tables of zeros that are long enough for m words, and so for n.
+pub tables-lent : (n m a b c : ℕ) → n ≤ m → 16 * m * m < a → 3 * (m * m * 16) ≤ b → 2 * (m * m) ≤ c
+    → TablesLent n (replicate a 0) (replicate b 0) (replicate c 0)
+tables-lent n m a b c h x y z =
+    let square : n * n ≤ m * m = le-trans (mul-le-mul-left n h) (mul-le-mul-right m h) in
+    let row : 16 * n * n ≤ 16 * m * m = le-trans (mul-le-mul-left (16 * n) h) (mul-le-mul-right m (mul-le-mul-left 16 h)) in
+    let ra = length-replicate {A = ℕ} a 0 in
+    let rb = length-replicate {A = ℕ} b 0 in
+    let rc = length-replicate {A = ℕ} c 0 in
+    record {
+      marksZero = ap (λ (k : ℕ). replicate k 0) (sym ra);
+      indexZero = ap (λ (k : ℕ). replicate k 0) (sym rb);
+      setsZero = ap (λ (k : ℕ). replicate k 0) (sym rc);
+      marksThere = omega arith;
+      indexThere = omega arith;
+      setsThere = omega arith;
+    }
+
+pub closed-as : {many many′ N N′ after : ℕ} {old new : List ℕ} (room n : ℕ) (rules : List Production) (words : List ℕ) → many ≡ many′ → N ≡ N′
+    → Closed room (build room (grammarIn rules many) (wordIs (take n words)) N n) old new after
+    → Closed room (build room (grammarIn rules many′) (wordIs (take n words)) N′ n) old new after
+closed-as {after = after} {old = old} {new = new} room n rules words e f c =
+    subst₂ (λ (k l : ℕ). Closed room (build room (grammarIn rules k) (wordIs (take n words)) l n) old new after) e f c
+
+module _ (card words : List ℕ) (n room : ℕ) (b : Buildable card words n) where
+  abbrev result : Option (List Record)
+  result = build room (grammarOf card) (wordIs (take n words)) (nonterminalCount card) n
+
+  below : Below (Holds (wordIs (take n words))) n
+  below i w h = omega (arith, words-below (take n words) i w h, length-take n words)
+
+  pub closed-decoded : {old new : List ℕ} {after : ℕ} (rules : List Production) → DecodedAll card (productionCount card) rules
+      → Closed room (build room (grammarIn rules (productionCount card)) (wordIs (take n words)) (nonterminalCount card) n) old new after
+      → Closed room result old new after
+  closed-decoded {old} {new} {after} rules d c =
+      subst (λ (g : List Rule). Closed room (build room g (wordIs (take n words)) (nonterminalCount card) n) old new after) (d .decoded) c
+
+  -- The model's two results.
+  decided : {old new : List ℕ} {after : ℕ} (s : Option (List Record)) → result ≡ s → Closed room result old new after
+      → ((c : List Record) → s ≡ some c → after ≤ room) × (s ≡ none → room < after)
+  decided s e c =
+      let one = card-one-sided card in
+      let lefts = lefts-below card (b .accepted) in (
+        λ k f. omega (arith, c .charted k (e ∙ f) .0, build-room room (nonterminalCount card) n (grammarOf card) (wordIs (take n words)) one below lefts (e ∙ f)),
+        λ f. c .over (e ∙ f),
+      )
+
+  pub over-room : {old new : List ℕ} {after : ℕ} → Closed room result old new after → room < after
+      → room < length (items (grammarOf card) (wordIs (take n words)) n)
+  over-room {old} {new} {after} c h = go result refl
+    where
+      go : (s : Option (List Record)) → result ≡ s → room < length (items (grammarOf card) (wordIs (take n words)) n)
+      go none e =
+          build-none room (nonterminalCount card) n (grammarOf card) (wordIs (take n words)) (card-one-sided card) below
+          (lefts-below card (b .accepted)) e
+      go (some k) e = absurd (omega (arith, decided (some k) e c .0 k refl))
+
+  pub within-room : {old new : List ℕ} {after : ℕ} → Closed room result old new after → after ≤ room
+      → (c : List Record) × IsChart (grammarOf card) (Holds (wordIs (take n words))) c × (after ≡ length c) × (length c ≤ room)
+      × (new ≡ chartBytes c ++ drop (16 * length c) old)
+  within-room {old} {new} {after} c h = go result refl
+    where
+      go : (s : Option (List Record)) → result ≡ s
+          → (c : List Record) × IsChart (grammarOf card) (Holds (wordIs (take n words))) c × (after ≡ length c) × (length c ≤ room)
+          × (new ≡ chartBytes c ++ drop (16 * length c) old)
+      go none e = absurd (omega (arith, decided none e c .1 refl))
+      go (some k) e =
+          let one = card-one-sided card in
+          let lefts = lefts-below card (b .accepted) in
+          let (same, written) = c .charted k e in (
+            k,
+            build-chart room (nonterminalCount card) n (grammarOf card) (wordIs (take n words)) one below lefts e,
+            same,
+            build-room room (nonterminalCount card) n (grammarOf card) (wordIs (take n words)) one below lefts e,
+            written,
+          )
+
+-- The room's own capacity.
+pub room-lent : (chart : List ℕ) {room : ℕ} → room ≡ capacity (length chart) → RoomLent room chart
+room-lent chart e = record { small = omega arith; there = omega arith }
+
+module _ {card words old new : List ℕ} {n room after : ℕ} (b : Buildable card words n) (own : room ≡ capacity (length old))
+    (c : Closed room (build room (grammarOf card) (wordIs (take n words)) (nonterminalCount card) n) old new after) where
+  pub built-over : {cleared : List ℕ} → room < after → cleared ≡ replicate (length new) 0
+      → BuiltRoom card (take n words) n TooMany old cleared
+  built-over h e = (
+    subst (λ (k : ℕ). k < length (items (grammarOf card) (wordIs (take n words)) n)) own (over-room card words n room b c h),
+    e ∙ ap (λ (k : ℕ). replicate k 0) (c .sameRoom),
+  )
+
+  pub built-within : after ≤ room → BuiltRoom card (take n words) n (Chart after) old new
+  built-within h =
+      let (k, chart, same, fits, written) = within-room card words n room b c h in
+      (k, chart, same, subst (λ (m : ℕ). length k ≤ m) own fits, written)

@@ -1,0 +1,207 @@
+-- One cell: its candidates as the code finds them, and what holds between cells once it is filled.
+-- The model's state says how the chart has grown, and by that the tables agree again.
+use Prim.Native.Nat.{ℕ, zero, suc, _+_, _-_, _*_, _≤_, _<_}
+use native.Mathlib.Nat.{le-refl}
+use native.Mathlib.Omega.{arith}
+use mathlib.Core.Path.{_≡_, refl, sym, _∙_, ap, subst, subst₃}
+use mathlib.Core.Bool.{Bool, true, false≢true}
+use mathlib.Core.List.{List, [], _∷_}
+use mathlib.Core.Option.{Option, none, some}
+use lib.Dec.{eqb}
+use lib.ListN.{length, getD, take, getElem?, length-take}
+use borrow.Author.Tests.{eqb-true}
+use Rattle.grammar.specs.Rewriting.{Rule, Lexical, Spine}
+use Rattle.grammar.specs.Input.{wordIs}
+use Rattle.grammar.specs.Chart.{Record}
+use Rattle.card.specs.declared.Production.{Production}
+use Rattle.chart_model.specs.Build.{flatUp, places, barePlaces, atSplit, byWordRule, byWord, candidates, addEach, fillCell}
+use Rattle.chart_model.proofs.Absent.{flatUp-past, flatUp-same, getElem-past}
+use Rattle.chart_model.proofs.FillModel.{IsCell, Grown, cell-grown, places-other, bareAt, bares-own, fresh-among}
+use Rattle.chart.specs.declared.index.Range.{Range}
+use Rattle.chart.specs.Room.{chartIn, stateOf, Added}
+use Rattle.chart.specs.Tables.{cellAt, bareIn, thisWord, rulesFrom, grammarIn, Finished}
+use Rattle.chart.specs.Fill.{Classified, Noted, Between, Filled, OtherCell}
+use Rattle.chart.proofs.RoomLaws.{chart-length, chart-kept-below}
+use Rattle.chart.proofs.FillLaws.{state-some, entered, entered-within, bareFrom-at, bareFrom-le, indexed-more, sorted-more, marks-clear}
+
+-- The word at a place of the line.
+pub word-test : (words : List ℕ) (n i w : ℕ) → i < n → i < length words → wordIs (take n words) i w ≡ eqb (getD words i 0) w
+word-test [] n i w a b = absurd (omega arith)
+word-test (x ∷ words) zero i w a b = absurd (omega arith)
+word-test (x ∷ words) (suc n) zero w a b = refl
+word-test (x ∷ words) (suc n) (suc i) w a b = word-test words n i w (omega arith) (omega arith)
+
+pub word-true : (words : List ℕ) (n i w : ℕ) → wordIs (take n words) i w ≡ true → getD words i 0 ≡ w
+word-true [] zero i w t = absurd (false≢true t)
+word-true [] (suc n) i w t = absurd (false≢true t)
+word-true (x ∷ words) zero i w t = absurd (false≢true t)
+word-true (x ∷ words) (suc n) zero w t = eqb-true x w t
+word-true (x ∷ words) (suc n) (suc i) w t = word-true words n i w t
+
+-- The candidates of a word, and of a longer span, as the code counts them.
+module _ (g : List Rule) (c : List Record) (A i : ℕ) where
+  word-same : (at : ℕ → ℕ → Bool) (w p : ℕ) → ((w′ : ℕ) → at i w′ ≡ eqb w w′) → (o : Option Rule)
+      → _≡_ {A = List Record} (elim o [ none ↦ [] | some r ↦ byWordRule (thisWord w) A i p r ])
+      (elim o [ none ↦ [] | some r ↦ byWordRule at A i p r ])
+  word-same at w p e none = refl
+  word-same at w p e (some (Lexical A′ w′)) = rw (e w′)
+  word-same at w p e (some (Spine A′ a before D after)) = refl
+
+  word-past : (at : ℕ → ℕ → Bool) (p : ℕ) → getElem? g p ≡ none → byWord g at A i p ≡ []
+  word-past at p e =
+      subst (λ (o : Option Rule). _≡_ {A = List Record} (elim o [ none ↦ [] | some r ↦ byWordRule at A i p r ]) []) (sym e) refl
+
+  pub words-are : (words : List ℕ) (n j k many : ℕ) → k ≡ i → i < n → i < length words → j - i ≡ 1 → length g ≤ many
+      → flatUp (byWord g (thisWord (getD words k 0)) A i) 0 many ≡ candidates g (wordIs (take n words)) c A i (j - i)
+  words-are words n j k many q a b e l =
+      let w = getD words k 0 in
+      let at = wordIs (take n words) in
+      let same : (w′ : ℕ) → at i w′ ≡ eqb w w′ = λ w′. rw q (word-test words n i w′ a b) in
+      rw e (flatUp-past (byWord g (thisWord w) A i) (length g) many l (λ p m. word-past (thisWord w) p (getElem-past g p m))
+      ∙ flatUp-same (byWord g (thisWord w) A i) (byWord g at A i) 0 (length g) (λ p. word-same at w p same (getElem? g p)))
+
+  pub splits-are : (at : ℕ → ℕ → Bool) (j : ℕ) → i < j → (j - i ≡ 1 → ⊥)
+      → flatUp (atSplit g c A i j) (i + 1) (j - i - 1) ≡ candidates g at c A i (j - i)
+  splits-are at j l d = go (j - i) refl
+    where
+      go : (len : ℕ) → j - i ≡ len → flatUp (atSplit g c A i j) (i + 1) (j - i - 1) ≡ candidates g at c A i (j - i)
+      go zero e = absurd (omega arith)
+      go (suc zero) e = absurd (d e)
+      go (suc (suc len)) e =
+          let s : i + suc (suc len) ≡ j = omega arith in
+          let t : suc i ≡ i + 1 = omega arith in
+          let u : suc len ≡ j - i - 1 = omega arith in
+          subst (λ (x : ℕ). flatUp (atSplit g c A i j) (i + 1) (j - i - 1) ≡ candidates g at c A i x) (sym e)
+          (subst₃ (λ (j′ x y : ℕ). flatUp (atSplit g c A i j′) x y ≡ candidates g at c A i (suc (suc len))) s t u refl)
+
+pub added-same : {n N room A i j count after : ℕ} {rs rs′ : List Record} {old oldMarks new newMarks : List ℕ} → rs ≡ rs′
+    → Added n N room A i j rs old oldMarks count new newMarks after → Added n N room A i j rs′ old oldMarks count new newMarks after
+added-same {n} {N} {room} {A} {i} {j} {count} {after} {old = old} {oldMarks} {new} {newMarks} e a =
+    subst (λ (rs : List Record). Added n N room A i j rs old oldMarks count new newMarks after) e a
+
+pub grammar-length : (rules : List Production) (many : ℕ) → length (grammarIn rules many) ≤ many
+grammar-length rules many = omega (arith, length-take many (rulesFrom rules))
+
+-- An item did not fit: nothing more is promised.
+pub over-filled : {g : List Rule} {n N room count after : ℕ} {Other : ℕ → ℕ → ℕ → Type 0} {s : Option (List Record)}
+    {old new marks index sets : List ℕ} → length new ≡ length old → stateOf room new after ≡ s → room < after
+    → Filled g n N room Other s old count new marks index sets after
+over-filled a e l =
+    record {
+      sameRoom = a;
+      model = e;
+      rest = λ h. absurd (omega arith);
+      ready = λ h. absurd (omega arith);
+      others = λ h. absurd (omega arith);
+    }
+
+-- A cell without candidates that are new: all is as it was.
+pub same-filled : {g : List Rule} {n N room count after : ℕ} {old oldMarks index sets new marks : List ℕ} {rs : List Record}
+    (A i j : ℕ) → Between g n N room old oldMarks index sets count → places (chartIn old count) A i j ≡ []
+    → Added n N room A i j rs old oldMarks count new marks after → after ≡ count
+    → Filled g n N room (OtherCell A i j) (addEach room rs (some (chartIn old count))) old count new marks index sets after
+same-filled {room = room} {count} {after} {old} {new = new} A i j b fresh a e =
+    let fits : after ≤ room = omega (arith, b .countFits) in
+    let w = a .works fits in
+    let same : chartIn new after ≡ chartIn old count = rw e (chart-kept-below old new count count (le-refl count) (a .kept)) in
+    record {
+      sameRoom = a .sameRoom;
+      model = a .model;
+      rest = a .rest;
+      ready = λ _. record {
+        wordsFit = w .wordsFit;
+        symbolsFit = w .symbolsFit;
+        roomSmall = w .roomSmall;
+        roomThere = w .roomThere;
+        marksThere = w .marksThere;
+        countFits = w .countFits;
+        exact = w .exact;
+        feet = w .feet;
+        clear = λ φ f. w .marked φ f ∙ rw same (fresh-among (chartIn old count) A i j φ fresh);
+        indexed = rw same (b .indexed);
+        within = rw e (b .within);
+        sorted = rw same (b .sorted);
+      };
+      others = λ _ A′ i′ j′ o. rw same;
+    }
+
+-- How a cell has grown the chart.
+pub cell-state : (old new : List ℕ) (count after room : ℕ) (g : List Rule) (at : ℕ → ℕ → Bool) (A i j : ℕ)
+    → stateOf room new after ≡ fillCell room g at (j - i) i A (some (chartIn old count)) → after ≤ room → i < j
+    → Grown (IsCell A i j) (chartIn old count) (chartIn new after)
+cell-state old new count after room g at A i j e l ij =
+    let k : i + (j - i) ≡ j = omega arith in
+    subst (λ (x : ℕ). Grown (IsCell A i x) (chartIn old count) (chartIn new after)) k
+    (cell-grown room g at (j - i) i A (state-some room after new e l))
+
+-- A range's numbers are counts.
+pub range-small : {chart old new : List ℕ} {n base count : ℕ} {r : Range} → Finished chart n base count old new r → base ≤ count
+    → count ≤ 65535 → (r .from < 65536) × (r .to < 65536) × (r .bare < 65536)
+range-small {chart} {base = base} {count} f a b =
+    let e = f .range in (
+      omega (arith, ap (λ (x : Range). x .from) e),
+      omega (arith, ap (λ (x : Range). x .to) e),
+      omega (arith, ap (λ (x : Range). x .bare) e, bareFrom-le chart base (count - base)),
+    )
+
+-- A cell that got records, once its marks are gone, its range is in the index and its productions are noted.
+cell-ready : {g : List Rule} {n N room base count after : ℕ} {old oldMarks index sets new marks marks′ sets′ by : List ℕ}
+    {rs : List Record} {r : Range} (A i j : ℕ) → Between g n N room old oldMarks index sets count → Classified g by → A < N → i < j
+    → j ≤ n → places (chartIn old count) A i j ≡ [] → Added n N room A i j rs old oldMarks count new marks after
+    → Grown (IsCell A i j) (chartIn old count) (chartIn new after) → after ≤ room → base ≡ count
+    → Finished new n base after marks marks′ r → 3 * cellAt n N A i j + 3 ≤ length index → Noted n by A i j (r .bare) sets sets′
+    → Filled g n N room (OtherCell A i j) (addEach room rs (some (chartIn old count))) old count new marks′
+    (entered index (cellAt n N A i j) r) sets′ after
+cell-ready {n = n} {N} {room} {base} {count} {after} {old} {index = index} {sets} {new} {sets′ = sets′} {by} {r = r} A i j
+    b classes inN ij jn fresh a grown fits eq done l noted =
+    let w = a .works fits in
+    let few = chart-length old count in
+    let many = chart-length new after in
+    let long = a .grown in
+    let last : r .bare ≡ bareAt (chartIn new after) (length (chartIn old count)) (length (chartIn new after) - length (chartIn old count)) =
+    ap (λ (x : Range). x .bare) (done .range) ∙ (bareFrom-at new after base (after - base) (omega arith) ∙ rw (few, many, eq)) in
+    let small : r .bare ≤ after =
+    omega (arith, ap (λ (x : Range). x .bare) (done .range), bareFrom-le new base (after - base)) in
+    let from : r .from ≡ length (chartIn old count) = omega (arith, ap (λ (x : Range). x .from) (done .range)) in
+    let to : r .to ≡ length (chartIn new after) = omega (arith, ap (λ (x : Range). x .to) (done .range)) in
+    let size : length (chartIn new after) ≡ length (chartIn old count) + (length (chartIn new after) - length (chartIn old count)) =
+    omega arith in
+    let lone : r .bare ≡ 0 → barePlaces (chartIn new after) A i j ≡ [] =
+    λ z. bares-own A i j bareIn refl (λ x. refl) fresh grown _ size ∙ (ap bareIn (sym last) ∙ ap bareIn z) in
+    record {
+      sameRoom = a .sameRoom;
+      model = a .model;
+      rest = a .rest;
+      ready = λ _. record {
+        wordsFit = w .wordsFit;
+        symbolsFit = w .symbolsFit;
+        roomSmall = w .roomSmall;
+        roomThere = w .roomThere;
+        marksThere = rw (done .sameLength) (w .marksThere);
+        countFits = w .countFits;
+        exact = w .exact;
+        feet = w .feet;
+        clear = marks-clear N A i j fresh grown (eq ∙ sym few) (w .marked) done;
+        indexed = indexed-more n N A i j inN ij jn fresh grown index r l from to last (omega arith) (b .indexed)
+            (λ k. rw few (b .within k));
+        within = entered-within index (cellAt n N A i j) after r (λ k. omega (arith, b .within k)) (omega arith) (omega arith) small;
+        sorted = sorted-more _ n A i j (omega (arith, b .symbolsFit)) ij jn grown by sets sets′ (r .bare) classes (b .sorted) noted lone;
+      };
+      others = λ _ A′ i′ j′ o. places-other A′ i′ j′ (λ (x, y, z). o x y z) grown;
+    }
+
+-- The same where the place in the index is known by equations.
+pub cell-place : {k a x y A i j : ℕ} (n N : ℕ) → k ≡ cellAt n N a x y → a ≡ A → x ≡ i → y ≡ j → k ≡ cellAt n N A i j
+cell-place n N e p q r = e ∙ rw (p, q, r)
+
+pub cell-filled : {g : List Rule} {n N room base count after : ℕ} {old oldMarks index sets new marks marks′ index′ sets′ by : List ℕ}
+    {rs : List Record} {r : Range} (A i j cell : ℕ) → Between g n N room old oldMarks index sets count → Classified g by → A < N → i < j
+    → j ≤ n → places (chartIn old count) A i j ≡ [] → Added n N room A i j rs old oldMarks count new marks after
+    → Grown (IsCell A i j) (chartIn old count) (chartIn new after) → after ≤ room → base ≡ count
+    → Finished new n base after marks marks′ r → cell ≡ cellAt n N A i j → 3 * cell + 3 ≤ length index → index′ ≡ entered index cell r
+    → Noted n by A i j (r .bare) sets sets′
+    → Filled g n N room (OtherCell A i j) (addEach room rs (some (chartIn old count))) old count new marks′ index′ sets′ after
+cell-filled {n = n} {N} {index = index} {r = r} A i j cell b classes inN ij jn fresh a grown fits eq done e l put noted =
+    rw (put, e)
+    (cell-ready A i j b classes inN ij jn fresh a grown fits eq done
+    (subst (λ (x : ℕ). 3 * x + 3 ≤ length index) e l) noted)

@@ -1,0 +1,317 @@
+-- Spans, lengths and all: each is a fold of the level below, and `Filled` goes with the fold, one turn at a time.
+-- A nonterminal of whose productions none is in the span's set has no candidates, so its turn may be left out.
+use Prim.Native.Nat.{ℕ, zero, suc, _+_, _-_, _*_, _≤_, _<_, zero-le}
+use native.Mathlib.Nat.{le-refl}
+use native.Mathlib.Decide.{ℕ-discrete, decLe}
+use native.Mathlib.Omega.{arith}
+use mathlib.Core.Path.{_≡_, refl, sym, _∙_, ap, subst}
+use mathlib.Core.Logic.{_⊎_, inl, inr}
+use mathlib.Core.Bool.{Bool, _&&_, and-eq-true-iff}
+use mathlib.Core.List.{List, [], _∷_, _++_}
+use mathlib.Core.Option.{Option, none, some}
+use lib.Bits.{bitAnd}
+use lib.Dec.{eqb}
+use lib.ListN.{length, getD, take, drop, getElem?, take-append-drop}
+use lib.Seq.{drop-drop}
+use borrow.Author.Tests.{le-leb, ne-eqb}
+use Rattle.grammar.specs.Rewriting.{Rule, Lexical, Spine}
+use Rattle.grammar.specs.Input.{wordIs}
+use Rattle.grammar.specs.Chart.{Record}
+use Rattle.grammar.proofs.StandsLaws.{some-same, none-some}
+use Rattle.layout.specs.Records.{chartBytes}
+use Rattle.chart_model.specs.Build.{foldUp, places, barePlaces, byAction, byRule, byWordRule, candidates, addEach, fillCell, closeSpan, closeLength}
+use Rattle.chart_model.proofs.BuildLaws.{foldUp-more}
+use Rattle.chart_model.proofs.FillModel.{Grown, same, grown-length, cell-grown, span-grown, length-grown, all-grown, places-other, bares-other, fold-none, not-so}
+use Rattle.chart_model.proofs.Absent.{concatMap-none, choice-none, choice-false, action-none, words-none, splits-none}
+use Rattle.chart.specs.Bits.{bitOf}
+use Rattle.chart.specs.Room.{chartIn}
+use Rattle.chart.specs.Tables.{spanAt, FirstAbsent, SecondAbsent, Sorted, leftIs, OwnSet}
+use Rattle.chart.specs.Fill.{WordRule, Classified, SpanSet, Between, Filled, Closed}
+use Rattle.chart.proofs.BitLaws.{bitOf-and}
+use Rattle.chart.proofs.RoomLaws.{chart-length}
+use Rattle.chart.proofs.FillLaws.{state-some, state-over, bit-zero, first-kept, second-kept}
+use Rattle.chart.proofs.FillCells.{word-true, over-filled}
+
+-- A rule of another nonterminal, one that lacks an element at a split, and one for another word make no records.
+module _ (c : List Record) (A i k j p : ℕ) where
+  other-rule : (r : Rule) → (leftIs A r → ⊥) → byRule c A i k j p r ≡ []
+  other-rule (Lexical A′ w) h = refl
+  other-rule (Spine A′ a (B ∷ []) D []) h = choice-false (eqb A′ A) _ (ne-eqb A′ A h)
+  other-rule (Spine A′ a (B ∷ []) D (C ∷ after)) h = refl
+  other-rule (Spine A′ a (B ∷ C ∷ before) D after) h = refl
+  other-rule (Spine A′ a [] D []) h = refl
+  other-rule (Spine A′ a [] D (B ∷ [])) h = choice-false (eqb A′ A) _ (ne-eqb A′ A h)
+  other-rule (Spine A′ a [] D (B ∷ C ∷ after)) h = refl
+
+  first-none : (r : Rule) → FirstAbsent c i k r → byRule c A i k j p r ≡ []
+  first-none (Lexical A′ w) h = refl
+  first-none (Spine A′ a (B ∷ []) D []) h = choice-none (eqb A′ A) _ (rw h)
+  first-none (Spine A′ a (B ∷ []) D (C ∷ after)) h = refl
+  first-none (Spine A′ a (B ∷ C ∷ before) D after) h = refl
+  first-none (Spine A′ a [] D []) h = refl
+  first-none (Spine A′ a [] D (B ∷ [])) h =
+      choice-none (eqb A′ A) _ (concatMap-none (byAction c a D i k A i j p) (barePlaces c B k j) (λ x. action-none c a D i k A i j p x h))
+  first-none (Spine A′ a [] D (B ∷ C ∷ after)) h = refl
+
+  second-none : (r : Rule) → SecondAbsent c k j r → byRule c A i k j p r ≡ []
+  second-none (Lexical A′ w) h = refl
+  second-none (Spine A′ a (B ∷ []) D []) h =
+      choice-none (eqb A′ A) _ (concatMap-none (byAction c a D k j A i j p) (barePlaces c B i k) (λ x. action-none c a D k j A i j p x h))
+  second-none (Spine A′ a (B ∷ []) D (C ∷ after)) h = refl
+  second-none (Spine A′ a (B ∷ C ∷ before) D after) h = refl
+  second-none (Spine A′ a [] D []) h = refl
+  second-none (Spine A′ a [] D (B ∷ [])) h = choice-none (eqb A′ A) _ (rw h)
+  second-none (Spine A′ a [] D (B ∷ C ∷ after)) h = refl
+
+module _ (words : List ℕ) (n A i p : ℕ) where
+  other-word : (r : Rule) → (leftIs A r → ⊥) → byWordRule (wordIs (take n words)) A i p r ≡ []
+  other-word (Lexical A′ w) h = rw (ne-eqb A′ A h)
+  other-word (Spine A′ a before D after) h = refl
+
+  word-none : (r : Rule) → (WordRule (getD words i 0) r → ⊥) → byWordRule (wordIs (take n words)) A i p r ≡ []
+  word-none (Lexical A′ w) h =
+      rw (not-so (eqb A′ A && wordIs (take n words) i w) (λ t. h (word-true words n i w (and-eq-true-iff (eqb A′ A) _ .0 t .1))))
+  word-none (Spine A′ a before D after) h = refl
+
+-- A bit that two sets do not share is missing in one of them.
+and-zero : (p x y : ℕ) → bitOf p (bitAnd x y) ≡ 0 → (bitOf p x ≡ 0) ⊎ (bitOf p y ≡ 0)
+and-zero p x y e = elim (ℕ-discrete (bitOf p x) 0) [
+  | yes z ↦ inl z
+  | no d ↦ inr (omega (arith, bitOf-and p x y))
+]
+
+-- The records of the span so far are no antecedents in it, so what the sets said of the chart before it still holds.
+module _ (g : List Rule) (n A i j set own : ℕ) (sets words : List ℕ) {P : ℕ → ℕ → ℕ → Type 0} {c b : List Record}
+    (spans : SpanSet g n sets words i j set) (owns : OwnSet g A own) (apart : (p : ℕ) → bitOf p (bitAnd own set) ≡ 0) (ij : i < j)
+    (jn : j ≤ n) (sorted : Sorted g n c sets) (grown : Grown P c b)
+    (inside : (B x y : ℕ) → P B x y → (x ≡ i) × (y ≡ j)) where
+  split-none : (k p : ℕ) (r : Rule) → i < k → k < j → getElem? g p ≡ some r → byRule b A i k j p r ≡ []
+  split-none k p r ik kj e = elim (and-zero p own set (apart p)) [
+    | inl z ↦ other-rule b A i k j p r (owns .has p r e z)
+    | inr z ↦ elim (and-zero p (getD sets (2 * spanAt n i k) 0) (getD sets (2 * spanAt n k j + 1) 0)
+        (spans .ofSplits (omega arith) p k ik kj z)) [
+          | inl y ↦ first-none b A i k j p r
+              (first-kept b c i k r (λ B. places-other B i k (λ h. left B h) grown) (λ B. bares-other B i k (λ h. left B h) grown)
+              (sorted .firsts p r i k e ik (omega arith) y))
+          | inr y ↦ second-none b A i k j p r
+              (second-kept b c k j r (λ B. places-other B k j (λ h. right B h) grown) (λ B. bares-other B k j (λ h. right B h) grown)
+              (sorted .seconds p r k j e kj jn y))
+        ]
+  ]
+    where
+      left : (B : ℕ) → P B i k → ⊥
+      left B h = omega (arith, inside B i k h)
+
+      right : (B : ℕ) → P B k j → ⊥
+      right B h = omega (arith, inside B k j h)
+
+  word-rule-none : (p : ℕ) (r : Rule) → j ≡ i + 1 → getElem? g p ≡ some r → byWordRule (wordIs (take n words)) A i p r ≡ []
+  word-rule-none p r one e = elim (and-zero p own set (apart p)) [
+    | inl z ↦ other-word words n A i p r (owns .has p r e z)
+    | inr z ↦ word-none words n A i p r (spans .ofWord one p r e z)
+  ]
+
+  no-candidates : candidates g (wordIs (take n words)) b A i (j - i) ≡ []
+  no-candidates = go (j - i) refl
+    where
+      go : (len : ℕ) → j - i ≡ len → candidates g (wordIs (take n words)) b A i (j - i) ≡ []
+      go zero e = absurd (omega arith)
+      go (suc zero) e =
+          rw e (words-none g (wordIs (take n words)) b A i (λ p r q. word-rule-none p r (omega arith) q))
+      go (suc (suc len)) e =
+          let s : j ≡ i + suc (suc len) = omega arith in
+          rw e (splits-none g (wordIs (take n words)) b A i len
+          (λ k p r x y q. subst (λ (j′ : ℕ). byRule b A i k j′ p r ≡ []) s (split-none k p r x (omega arith) q)))
+
+  -- So its turn changes nothing.
+  pub idle-cell : (room : ℕ) → fillCell room g (wordIs (take n words)) (j - i) i A (some b) ≡ some b
+  idle-cell room = ap (λ (rs : List Record). addEach room rs (some b)) no-candidates
+
+-- Turns that change nothing.
+pub fold-idle : (f : ℕ → Option (List Record) → Option (List Record)) (m : ℕ) (c : List Record)
+    → ((l : ℕ) → l < m → f l (some c) ≡ some c) → foldUp f m (some c) ≡ some c
+fold-idle f zero c h = refl
+fold-idle f (suc m) c h = rw (fold-idle f m c (λ l k. h l (omega arith))) (h m (le-refl (suc m)))
+
+-- In a span: with an empty set no nonterminal adds anything; one whose set shares no production with the span's adds nothing; and the
+-- cell of the next nonterminal is still without records.
+module _ {g : List Rule} {n N count : ℕ} {chart marks index sets by words : List ℕ} {i j set : ℕ} (room : ℕ)
+    (b : Between g n N room chart marks index sets count) (classes : Classified g by) (spans : SpanSet g n sets words i j set)
+    (ij : i < j) (jn : j ≤ n) where
+  pub idle-span : set ≡ 0
+      → foldUp (fillCell room g (wordIs (take n words)) (j - i) i) N (some (chartIn chart count)) ≡ some (chartIn chart count)
+  idle-span z =
+      fold-idle (fillCell room g (wordIs (take n words)) (j - i) i) N (chartIn chart count)
+      (λ A l. idle-cell g n A i j set (getD by A 0) sets words {P = λ _ _ _. ⊥} spans
+      (classes .own A (omega (arith, b .symbolsFit))) (λ p. omega (arith, bitOf-and p (getD by A 0) set, ap (bitOf p) z ∙ bit-zero p)) ij jn
+      (b .sorted) same (λ B x y h. absurd h) room)
+
+  pub idle-turn : {c : List Record} (A : ℕ) → A < N → bitAnd (getD by A 0) set ≡ 0
+      → foldUp (fillCell room g (wordIs (take n words)) (j - i) i) A (some (chartIn chart count)) ≡ some c
+      → fillCell room g (wordIs (take n words)) (j - i) i A (some c) ≡ some c
+  idle-turn A l z q =
+      idle-cell g n A i j set (getD by A 0) sets words spans (classes .own A (omega (arith, b .symbolsFit)))
+      (λ p. ap (bitOf p) z ∙ bit-zero p) ij jn (b .sorted) (span-grown room g (wordIs (take n words)) (j - i) i A q)
+      (λ B x y (u, v, w). (v, omega arith)) room
+
+pub fresh-turn : {b : List Record} (c : List Record) (room : ℕ) (g : List Rule) (at : ℕ → ℕ → Bool) (i j A : ℕ) → places c A i j ≡ []
+    → foldUp (fillCell room g at (j - i) i) A (some c) ≡ some b → places b A i j ≡ []
+fresh-turn c room g at i j A fresh q =
+    places-other A i j (λ (u, v, w). omega arith) (span-grown room g at (j - i) i A q) ∙ fresh
+
+-- Folds of turns, each of which may be none once an item did not fit.
+drop-later : (x y : List ℕ) (m k : ℕ) → drop m x ≡ drop m y → m ≤ k → drop k x ≡ drop k y
+drop-later x y m k e l =
+    let s : k ≡ m + (k - m) = omega arith in
+    rw s (sym (drop-drop (k - m) m x) ∙ (ap (drop (k - m)) e ∙ drop-drop (k - m) m y))
+
+-- Nothing was filled yet.
+pub filled-none : {g : List Rule} {n N room count : ℕ} {Other : ℕ → ℕ → ℕ → Type 0} {s : Option (List Record)}
+    {chart marks index sets : List ℕ} → Between g n N room chart marks index sets count → s ≡ some (chartIn chart count)
+    → Filled g n N room Other s chart count chart marks index sets count
+filled-none {room = room} {count} {chart = chart} b e =
+    record {
+      sameRoom = refl;
+      model = rw (le-leb count room (b .countFits)) (sym e);
+      rest = λ _. refl;
+      ready = λ _. b;
+      others = λ _ A i j o. refl;
+    }
+
+-- Turns only add records.
+abbrev pub Grows : (ℕ → Option (List Record) → Option (List Record)) → Type 0
+Grows f = (m : ℕ) (c b : List Record) → f m (some c) ≡ some b → length c ≤ length b
+
+module _ (room : ℕ) (g : List Rule) (at : ℕ → ℕ → Bool) where
+  pub cell-grows : (len i : ℕ) → Grows (fillCell room g at len i)
+  cell-grows len i m c b q = grown-length (cell-grown room g at len i m q)
+
+  pub span-grows : (N len : ℕ) → Grows (closeSpan room g at N len)
+  span-grows N len m c b q = grown-length (span-grown room g at len m N q)
+
+  pub length-grows : (N n : ℕ) → Grows (closeLength room g at N n)
+  length-grows N n m c b q = grown-length (length-grown room g at N (suc m) (n - m) q)
+
+  -- And none stays none.
+  pub span-stays : (N len i : ℕ) → closeSpan room g at N len i none ≡ none
+  span-stays N len i = fold-none (fillCell room g at len i) none 0 N (λ l. refl) refl zero-le
+
+  pub length-stays : (N n len : ℕ) → closeLength room g at N n len none ≡ none
+  length-stays N n len = fold-none (closeSpan room g at N (suc len)) none 0 (n - len) (span-stays N (suc len)) refl zero-le
+
+module _ {g : List Rule} {n N room count now : ℕ} {Other : ℕ → ℕ → ℕ → Type 0} {old mid marks index sets : List ℕ}
+    (f : ℕ → Option (List Record) → Option (List Record)) (m : ℕ) (s : Option (List Record))
+    (sofar : Filled g n N room Other (foldUp f m s) old count mid marks index sets now) (fits : now ≤ room) where
+  -- One turn more.
+  pub fold-then : {after : ℕ} {Other′ : ℕ → ℕ → ℕ → Type 0} {new marks′ index′ sets′ : List ℕ} → Grows f
+      → Filled g n N room Other′ (f m (some (chartIn mid now))) mid now new marks′ index′ sets′ after
+      → ((A i j : ℕ) → Other A i j → Other′ A i j)
+      → Filled g n N room Other (foldUp f (m + 1) s) old count new marks′ index′ sets′ after
+  fold-then {after} {new = new} grows turn narrower =
+      record {
+        sameRoom = turn .sameRoom ∙ sofar .sameRoom;
+        model = turn .model ∙ (ap (f m) (sym state) ∙ sym (foldUp-more f m s));
+        rest = λ h. turn .rest h ∙ drop-later mid old (16 * now) (16 * after) (sofar .rest fits) (omega (arith, later h));
+        ready = turn .ready;
+        others = λ h A i j o. turn .others h A i j (narrower A i j o) ∙ sofar .others fits A i j o;
+      }
+    where
+      state : foldUp f m s ≡ some (chartIn mid now)
+      state = state-some room now mid (sofar .model) fits
+
+      later : after ≤ room → now ≤ after
+      later h =
+          omega (
+            arith,
+            chart-length mid now,
+            chart-length new after,
+            grows m (chartIn mid now) (chartIn new after) (state-some room after new (turn .model) h),
+          )
+
+  -- A turn that changes nothing.
+  pub fold-skip : f m (some (chartIn mid now)) ≡ some (chartIn mid now)
+      → Filled g n N room Other (foldUp f (m + 1) s) old count mid marks index sets now
+  fold-skip idle =
+      record {
+        sameRoom = sofar .sameRoom;
+        model = sofar .model ∙ (state ∙ (sym idle ∙ (ap (f m) (sym state) ∙ sym (foldUp-more f m s))));
+        rest = sofar .rest;
+        ready = sofar .ready;
+        others = sofar .others;
+      }
+    where
+      state : foldUp f m s ≡ some (chartIn mid now)
+      state = state-some room now mid (sofar .model) fits
+
+-- An item did not fit in some turn: so none does at the end.
+pub fold-over : {g : List Rule} {n N room count after : ℕ} {Other : ℕ → ℕ → ℕ → Type 0}
+    {old new marks index sets : List ℕ} (f : ℕ → Option (List Record) → Option (List Record)) (m k : ℕ) (s : Option (List Record))
+    → ((l : ℕ) → f l none ≡ none)
+    → Filled g n N room Other (foldUp f m s) old count new marks index sets after → room < after → m ≤ k
+    → Filled g n N room Other (foldUp f k s) old count new marks index sets after
+fold-over {room = room} {after = after} {new = new} f m k s stays last over l =
+    let gone = state-over room after new (last .model) over in
+    over-filled (last .sameRoom) (last .model ∙ (gone ∙ sym (fold-none f s m k stays gone l))) over
+
+pub fold-at : {g : List Rule} {n N room count after : ℕ} {Other : ℕ → ℕ → ℕ → Type 0} {old new marks index sets : List ℕ}
+    (f : ℕ → Option (List Record) → Option (List Record)) (m k : ℕ) (s : Option (List Record)) → m ≡ k
+    → Filled g n N room Other (foldUp f m s) old count new marks index sets after
+    → Filled g n N room Other (foldUp f k s) old count new marks index sets after
+fold-at f m k s e h = rw e at h
+
+-- Where branches have met, what they left is known by equations.
+pub filled-eq : {g : List Rule} {n N room count after after′ : ℕ} {Other : ℕ → ℕ → ℕ → Type 0} {s : Option (List Record)}
+    {old new marks index sets new′ marks′ index′ sets′ : List ℕ} → new′ ≡ new → marks′ ≡ marks → index′ ≡ index → sets′ ≡ sets
+    → after′ ≡ after → Filled g n N room Other s old count new marks index sets after
+    → Filled g n N room Other s old count new′ marks′ index′ sets′ after′
+filled-eq p q r t u h = rw (p, q, r, t, u) h
+
+-- The next span of a length, and the spans of the next length, are still without records.
+pub fresh-span : {b : List Record} (c : List Record) (room : ℕ) (g : List Rule) (at : ℕ → ℕ → Bool) (N len i A : ℕ)
+    → ((A i : ℕ) → places c A i (i + (len + 1)) ≡ []) → foldUp (closeSpan room g at N (suc len)) i (some c) ≡ some b
+    → places b A i (i + len + 1) ≡ []
+fresh-span {b} c room g at N len i A fresh q =
+    let e : i + (len + 1) ≡ i + len + 1 = omega arith in
+    subst (λ (j : ℕ). places b A i j ≡ []) e
+    (places-other A i (i + (len + 1)) (λ (u, v). omega arith) (length-grown room g at N (suc len) i q) ∙ fresh A i)
+
+pub fresh-length : {b : List Record} (room : ℕ) (g : List Rule) (at : ℕ → ℕ → Bool) (N n len A i : ℕ)
+    → foldUp (closeLength room g at N n) len (some []) ≡ some b → places b A i (i + (len + 1)) ≡ []
+fresh-length room g at N n len A i q = places-other A i (i + (len + 1)) (λ h. omega arith) (all-grown room g at N n len q)
+
+-- The turn for the span from i of a length, in the model's terms.
+pub span-turn : {g : List Rule} {n N room now after : ℕ} {Other : ℕ → ℕ → ℕ → Type 0} {mid new marks index sets : List ℕ}
+    (at : ℕ → ℕ → Bool) (len i : ℕ)
+    → Filled g n N room Other (closeSpan room g at N (i + len + 1 - i) i (some (chartIn mid now))) mid now new marks index sets after
+    → Filled g n N room Other (closeSpan room g at N (suc len) i (some (chartIn mid now))) mid now new marks index sets after
+span-turn {g} {n} {N} {room} {now} {after} {Other} {mid} {new} {marks} {index} {sets} at len i h =
+    let e : i + len + 1 - i ≡ suc len = omega arith in
+    subst (λ (k : ℕ). Filled g n N room Other (closeSpan room g at N k i (some (chartIn mid now))) mid now new marks index sets after) e h
+
+-- All lengths are closed.
+module _ {g : List Rule} {n N room count after : ℕ} {Other : ℕ → ℕ → ℕ → Type 0} {s : Option (List Record)}
+    {old new marks index sets : List ℕ} (filled : Filled g n N room Other s old count new marks index sets after) where
+  past : s ≡ none → Dec (after ≤ room) → room < after
+  past e (yes l) = absurd (none-some (sym e ∙ state-some room after new (filled .model) l))
+  past e (no d) = omega arith
+
+  within : (c : List Record) → s ≡ some c → Dec (after ≤ room) → after ≤ room
+  within c e (yes l) = l
+  within c e (no d) = absurd (none-some (sym (state-over room after new (filled .model) (omega arith)) ∙ e))
+
+  pub closed-all : Closed room s old new after
+  closed-all =
+      record {
+        sameRoom = filled .sameRoom;
+        over = λ e. past e (decLe after room);
+        charted = λ c e. charted c e (within c e (decLe after room));
+      }
+    where
+      charted : (c : List Record) → s ≡ some c → after ≤ room → (after ≡ length c) × (new ≡ chartBytes c ++ drop (16 * length c) old)
+      charted c e l =
+          let same : chartIn new after ≡ c = some-same (sym (state-some room after new (filled .model) l) ∙ e) in
+          let size : after ≡ length c = sym (chart-length new after) ∙ ap length same in (
+            size,
+            rw (← size, ← same)
+                (sym (take-append-drop (16 * after) new) ∙ rw (filled .ready l .exact, filled .rest l)),
+          )

@@ -1,0 +1,16 @@
+pub mod BitLaws
+pub mod TableLaws
+pub mod RoomLaws
+pub mod MarkLaws
+pub mod AddLaws
+pub mod StepLaws
+pub mod StepCandidates
+pub mod CellLaws
+pub mod FinishLaws
+pub mod SetLaws
+pub mod FillLaws
+pub mod FillCells
+pub mod FillSpans
+pub mod BuiltLaws
+pub mod CardFits
+pub mod BuiltExact

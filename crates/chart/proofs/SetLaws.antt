@@ -1,0 +1,333 @@
+-- Sets of productions as bits. `|` only adds bits, so no set loses a production; hence what the sets say of the rules so far holds
+-- of one rule more as soon as that production's own bit is in the sets that its rule asks for.
+use Prim.Native.Nat.{ℕ, zero, suc, _+_, _*_, _%_, _^_, _≤_, _<_}
+use native.Mathlib.Numerals.{add-one}
+use native.Mathlib.Omega.{arith}
+use native.Mathlib.Decide.{ℕ-discrete}
+use mathlib.Core.Path.{_≡_, refl, sym, ap, ap₂, subst, _∙_}
+use mathlib.Core.Logic.{_⊎_, inl, inr}
+use mathlib.Core.List.{List, [], _∷_}
+use mathlib.Core.Option.{some}
+use lib.Bits.{bitAnd, bitOr}
+use lib.ListN.{length, getD, getElem?, set, replicate, length-set, length-take}
+use lib.Seq.{getD-set-same, getD-set-other}
+use denote.Enum.Declared.{tagOf}
+use Rattle.grammar.specs.Rewriting.{Rule, Lexical, Spine, Action}
+use Rattle.grammar.proofs.StandsLaws.{none-some, some-same}
+use Rattle.card.specs.Productions.{actionFrom, ruleFrom}
+use Rattle.card.specs.declared.Action as declared
+use Rattle.card.specs.declared.Production.{Production}
+use Rattle.card.specs.declared.Production.the-variants.{Word, SideFirst, SideLast}
+use Rattle.card.proofs.Production.{the-type}
+use Rattle.chart.specs.Bits.{bitOf}
+use Rattle.chart.specs.Tables.{spanAt, leftIs, rulesFrom, grammarIn, RuleFits, RulesFit}
+use Rattle.chart.specs.Fill.{FirstSide, FirstDependent, SecondSide, SecondDependent, SetOf, Classified, withBit, Joined, WordRule, Noted}
+use Rattle.chart.proofs.BitLaws.{bitOf-or, bitOf-zero, bitOf-power, bitOf-other, one-shifted}
+use Rattle.chart.proofs.CellLaws.{rule-there}
+
+-- Bits go into the set at a place: no set loses a bit, and that set has those.
+abbrev pub orInto : List ℕ → ℕ → ℕ → List ℕ
+orInto old at x = set old at (bitOr (getD old at 0) x)
+
+or-bits : (q x y : ℕ) → bitOf q (bitOr x y) ≡ 0 → (bitOf q x ≡ 0) × (bitOf q y ≡ 0)
+or-bits q x y z = (omega (arith, bitOf-or q x y), omega (arith, bitOf-or q x y))
+
+module _ (old : List ℕ) (at x : ℕ) (inside : at < length old) where
+  into-there : (q : ℕ) → bitOf q (getD (orInto old at x) at 0) ≡ 0 → (bitOf q (getD old at 0) ≡ 0) × (bitOf q x ≡ 0)
+  into-there q z = or-bits q (getD old at 0) x (sym (ap (bitOf q) (getD-set-same old at _ 0 inside)) ∙ z)
+
+  into-kept : (s q : ℕ) → bitOf q (getD (orInto old at x) s 0) ≡ 0 → bitOf q (getD old s 0) ≡ 0
+  into-kept s q z = elim (ℕ-discrete s at) [
+    | yes e ↦
+        subst (λ (k : ℕ). bitOf q (getD old k 0) ≡ 0) (sym e)
+        (into-there q (subst (λ (k : ℕ). bitOf q (getD (orInto old at x) k 0) ≡ 0) e z) .0)
+    | no d ↦ sym (ap (bitOf q) (getD-set-other old at s _ 0 d)) ∙ z
+  ]
+
+-- One bit, p.
+power-there : (p : ℕ) → bitOf p (2 ^ p) ≡ 0 → ⊥
+power-there p z = omega (arith, bitOf-power p)
+
+abbrev Has : ℕ → List ℕ → ℕ → Type 0
+Has p by s = bitOf p (getD by s 0) ≡ 0 → ⊥
+
+with-there : (by : List ℕ) (at p : ℕ) → at < length by → Has p (withBit by at p) at
+with-there by at p h z = power-there p (into-there by at (2 ^ p) h p z .1)
+
+-- And no other bit.
+with-others : (by : List ℕ) (at p : ℕ) → at < length by → (s q : ℕ) → (q ≡ p → ⊥) → bitOf q (getD by s 0) ≡ 0
+    → bitOf q (getD (withBit by at p) s 0) ≡ 0
+with-others by at p h s q d z = elim (ℕ-discrete s at) [
+  | yes e ↦
+      let same : bitOf q (getD by at 0) ≡ 0 = subst (λ (k : ℕ). bitOf q (getD by k 0) ≡ 0) e z in
+      let in-place : bitOf q (getD (withBit by at p) at 0) ≡ 0 =
+      ap (bitOf q) (getD-set-same by at _ 0 h) ∙ omega (arith, bitOf-or q (getD by at 0) (2 ^ p), bitOf-other q p d) in
+      subst (λ (k : ℕ). bitOf q (getD (withBit by at p) k 0) ≡ 0) (sym e) in-place
+  | no o ↦ ap (bitOf q) (getD-set-other by at s _ 0 o) ∙ z
+]
+
+-- One production into three sets, in turn.
+record Three (old : List ℕ) (p s t u : ℕ) (new : List ℕ) : Type 0 where
+  sameLength : length new ≡ length old
+  kept : (x q : ℕ) → bitOf q (getD new x 0) ≡ 0 → bitOf q (getD old x 0) ≡ 0
+  others : (x q : ℕ) → (q ≡ p → ⊥) → bitOf q (getD old x 0) ≡ 0 → bitOf q (getD new x 0) ≡ 0
+  first : Has p new s
+  second : Has p new t
+  third : Has p new u
+
+three : (old : List ℕ) (p s t u : ℕ) → length old ≡ 80 → s < 80 → t < 80 → u < 80
+    → Three old p s t u (withBit (withBit (withBit old s p) t p) u p)
+three old p s t u long a b c =
+    let one = withBit old s p in
+    let two = withBit one t p in
+    let x : s < length old = omega arith in
+    let y : t < length one = simp length-set (omega arith) in
+    let z : u < length two = simp length-set (omega arith) in
+    record {
+      sameLength = simp length-set;
+      kept = λ k q h. into-kept old s (2 ^ p) x k q (into-kept one t (2 ^ p) y k q (into-kept two u (2 ^ p) z k q h));
+      others = λ k q d h. with-others two u p z k q d (with-others one t p y k q d (with-others old s p x k q d h));
+      first = λ h. with-there old s p x (into-kept one t (2 ^ p) y s p (into-kept two u (2 ^ p) z s p h));
+      second = λ h. with-there one t p y (into-kept two u (2 ^ p) z t p h);
+      third = with-there two u p z;
+    }
+
+-- The three kinds of rules.
+module _ (old : List ℕ) (p A : ℕ) (long : length old ≡ 80) (fits : A < 16) where
+  joined-word : (w : ℕ) → Joined (Lexical A w) p old (withBit old A p)
+  joined-word w =
+      let h : A < length old = omega arith in
+      record {
+        sameLength = length-set old A _;
+        kept = into-kept old A (2 ^ p) h;
+        others = with-others old A p h;
+        own = λ k e. subst (Has p (withBit old A p)) e (with-there old A p h);
+        firstSide = λ k e z. e;
+        firstDependent = λ k e z. e;
+        secondSide = λ k e z. e;
+        secondDependent = λ k e z. e;
+      }
+
+  module _ (a : Action) (D B : ℕ) (d : D < 16) (b : B < 16) where
+    joined-first : Joined (Spine A a (B ∷ []) D []) p old (withBit (withBit (withBit old A p) (16 + B) p) (64 + D) p)
+    joined-first =
+        let new = withBit (withBit (withBit old A p) (16 + B) p) (64 + D) p in
+        let t = three old p A (16 + B) (64 + D) long (omega arith) (omega arith) (omega arith) in
+        record {
+          sameLength = t .sameLength;
+          kept = t .kept;
+          others = t .others;
+          own = λ k e. subst (Has p new) e (t .first);
+          firstSide = λ k e. subst (λ (x : ℕ). Has p new (16 + x)) e (t .second);
+          firstDependent = λ k e z. e;
+          secondSide = λ k e z. e;
+          secondDependent = λ k e. subst (λ (x : ℕ). Has p new (64 + x)) e (t .third);
+        }
+
+    joined-last : Joined (Spine A a [] D (B ∷ [])) p old (withBit (withBit (withBit old A p) (32 + D) p) (48 + B) p)
+    joined-last =
+        let new = withBit (withBit (withBit old A p) (32 + D) p) (48 + B) p in
+        let t = three old p A (32 + D) (48 + B) long (omega arith) (omega arith) (omega arith) in
+        record {
+          sameLength = t .sameLength;
+          kept = t .kept;
+          others = t .others;
+          own = λ k e. subst (Has p new) e (t .first);
+          firstSide = λ k e z. e;
+          firstDependent = λ k e. subst (λ (x : ℕ). Has p new (32 + x)) e (t .second);
+          secondSide = λ k e. subst (λ (x : ℕ). Has p new (48 + x)) e (t .third);
+          secondDependent = λ k e z. e;
+        }
+
+-- The same of the productions as the code has them.
+pub word-fits : {r : Production} {A w : ℕ} → r ≡ Word A w → RuleFits 16 (ruleFrom r) → A < 16
+word-fits e f = subst (λ (x : Production). RuleFits 16 (ruleFrom x)) e f
+
+pub first-fits : {r : Production} {A B D : ℕ} {a : declared.Action} → r ≡ SideFirst A a B D → RuleFits 16 (ruleFrom r)
+    → (A < 16) × (B < 16) × (D < 16)
+first-fits e f = let (a, b, c, d, g) = subst (λ (x : Production). RuleFits 16 (ruleFrom x)) e f in (a, c .0, d)
+
+pub last-fits : {r : Production} {A B D : ℕ} {a : declared.Action} → r ≡ SideLast A a D B → RuleFits 16 (ruleFrom r)
+    → (A < 16) × (D < 16) × (B < 16)
+last-fits e f = let (a, b, c, d, g) = subst (λ (x : Production). RuleFits 16 (ruleFrom x)) e f in (a, d, g .0)
+
+module _ {r : Production} (p : ℕ) {old : List ℕ} (f : RuleFits 16 (ruleFrom r)) (long : length old ≡ 80) {new : List ℕ} {x A : ℕ}
+  where
+    pub word-joined : {w : ℕ} → r ≡ Word A w → x ≡ A → new ≡ withBit old x p → Joined (ruleFrom r) p old new
+    word-joined {w} e h n = rw (e, n, h) (joined-word old p A long (word-fits e f) w)
+
+    pub first-joined : {one two : List ℕ} {y z B D : ℕ} {a : declared.Action} → r ≡ SideFirst A a B D → x ≡ A → y ≡ B
+        → z ≡ D → one ≡ withBit old x p → two ≡ withBit one (16 + y) p → new ≡ withBit two (64 + z) p → Joined (ruleFrom r) p old new
+    first-joined {B = B} {D} {a} e h i j l m n =
+        let (u, v, w) = first-fits e f in rw (e, n, m, l, h, i, j) (joined-first old p A long u (actionFrom a) D B w v)
+
+    pub last-joined : {one two : List ℕ} {y z B D : ℕ} {a : declared.Action} → r ≡ SideLast A a D B → x ≡ A → y ≡ D
+        → z ≡ B → one ≡ withBit old x p → two ≡ withBit one (32 + y) p → new ≡ withBit two (48 + z) p → Joined (ruleFrom r) p old new
+    last-joined {B = B} {D} {a} e h i j l m n =
+        let (u, v, w) = last-fits e f in rw (e, n, m, l, h, i, j) (joined-last old p A long u (actionFrom a) D B v w)
+
+-- A rule of a grammar that has one rule more: one of those before, or the last.
+rule-more : (rules : List Production) (p q : ℕ) {r : Rule} (d : Production) → getElem? (grammarIn rules (suc p)) q ≡ some r
+    → (getElem? (grammarIn rules p) q ≡ some r) ⊎ ((q ≡ p) × (r ≡ ruleFrom (getD rules p d)))
+rule-more [] p q d e = absurd (none-some e)
+rule-more (x ∷ rules) zero zero d e = inr (refl, sym (some-same e))
+rule-more (x ∷ rules) zero (suc q) d e = absurd (none-some e)
+rule-more (x ∷ rules) (suc p) zero d e = inl e
+rule-more (x ∷ rules) (suc p) (suc q) d e = elim (rule-more rules p q d e) [
+  | inl f ↦ inl f
+  | inr (a, b) ↦ inr (ap suc a, b)
+]
+
+rules-length : (rules : List Production) → length (rulesFrom rules) ≡ length rules
+rules-length [] = refl
+rules-length (r ∷ rules) = ap suc (rules-length rules)
+
+pub rule-fits : (N : ℕ) (rules : List Production) (p : ℕ) (d : Production) → p < length rules → RulesFit N rules
+    → RuleFits N (ruleFrom (getD rules p d))
+rule-fits N rules p d h f = f p _ (rule-there rules d p h)
+
+-- What is all 0 is 0 everywhere.
+pub zero-at : (n s : ℕ) → _≡_ {A = ℕ} (getD (replicate n 0) s 0) 0
+zero-at zero s = refl
+zero-at (suc n) zero = refl
+zero-at (suc n) (suc s) = zero-at n s
+
+-- A set for one rule more.
+pub setOf-none : (test : Rule → Type 0) (set : ℕ) → SetOf [] test set
+setOf-none test set p r e = absurd (none-some e)
+
+setOf-more : (rules : List Production) (p : ℕ) (d : Production) (test : Rule → Type 0) (old new : ℕ)
+    → SetOf (grammarIn rules p) test old → ((q : ℕ) → bitOf q new ≡ 0 → bitOf q old ≡ 0)
+    → (test (ruleFrom (getD rules p d)) → bitOf p new ≡ 0 → ⊥) → SetOf (grammarIn rules (p + 1)) test new
+setOf-more rules p d test old new so kept there q r e z t = elim (rule-more rules p q d (rw add-one at e)) [
+  | inl f ↦ so q r f (kept q z) t
+  | inr (a, b) ↦ there (subst test b t) (subst (λ (k : ℕ). bitOf k new ≡ 0) a z)
+]
+
+pub classified-none : (by : List ℕ) → ((s : ℕ) → getD by s 0 ≡ 0) → Classified [] by
+classified-none by zeros =
+    record {
+      own = λ A h.
+          record { has = setOf-none (leftIs A) _; noMore = λ q l. ap (bitOf q) (zeros A) ∙ bitOf-zero q };
+      firstSides = λ A h. setOf-none (FirstSide A) _;
+      firstDependents = λ A h. setOf-none (FirstDependent A) _;
+      secondSides = λ A h. setOf-none (SecondSide A) _;
+      secondDependents = λ A h. setOf-none (SecondDependent A) _;
+    }
+
+pub classified-more : (rules : List Production) (p : ℕ) (d : Production) {old new : List ℕ} → p < length rules
+    → Classified (grammarIn rules p) old → Joined (ruleFrom (getD rules p d)) p old new → Classified (grammarIn rules (p + 1)) new
+classified-more rules p d {old} {new} there c j =
+    record {
+      own = λ A h.
+          record {
+            has = more (leftIs A) A (c .own A h .has) (j .own A);
+            noMore = λ q l. j .others A q (last q l) (c .own A h .noMore q (before q l));
+          };
+      firstSides = λ A h. more (FirstSide A) (16 + A) (c .firstSides A h) (j .firstSide A);
+      firstDependents = λ A h. more (FirstDependent A) (32 + A) (c .firstDependents A h) (j .firstDependent A);
+      secondSides = λ A h. more (SecondSide A) (48 + A) (c .secondSides A h) (j .secondSide A);
+      secondDependents = λ A h. more (SecondDependent A) (64 + A) (c .secondDependents A h) (j .secondDependent A);
+    }
+  where
+    last : (q : ℕ) → length (grammarIn rules (p + 1)) ≤ q → q ≡ p → ⊥
+    last q l e = omega (arith, length-take (p + 1) (rulesFrom rules), rules-length rules)
+
+    before : (q : ℕ) → length (grammarIn rules (p + 1)) ≤ q → length (grammarIn rules p) ≤ q
+    before q l = omega (arith, length-take (p + 1) (rulesFrom rules), length-take p (rulesFrom rules), rules-length rules)
+
+    more : (test : Rule → Type 0) (s : ℕ) → SetOf (grammarIn rules p) test (getD old s 0)
+        → (test (ruleFrom (getD rules p d)) → Has p new s) → SetOf (grammarIn rules (p + 1)) test (getD new s 0)
+    more test s so = setOf-more rules p d test (getD old s 0) (getD new s 0) so (j .kept s)
+
+-- The word productions: a rule more whose word is w, or is not.
+module _ (rules : List Production) (p : ℕ) (d : Production) (w : ℕ) {old new : ℕ} (so : SetOf (grammarIn rules p) (WordRule w) old)
+  where
+    pub word-taken : p < 64 → new ≡ bitOr old ((1 * 2 ^ p) % 2 ^ 64) → SetOf (grammarIn rules (p + 1)) (WordRule w) new
+    word-taken h e = setOf-more rules p d (WordRule w) old new so (λ q z. bits q z .0) (λ t z. power-there p (bits p z .1))
+      where
+        bits : (q : ℕ) → bitOf q new ≡ 0 → (bitOf q old ≡ 0) × (bitOf q (2 ^ p) ≡ 0)
+        bits q z = or-bits q old (2 ^ p) (sym (ap (bitOf q) (e ∙ ap (bitOr old) (one-shifted p 64 h))) ∙ z)
+
+    pub word-left : (WordRule w (ruleFrom (getD rules p d)) → ⊥) → new ≡ old → SetOf (grammarIn rules (p + 1)) (WordRule w) new
+    word-left other e = setOf-more rules p d (WordRule w) old new so (λ q z. sym (ap (bitOf q) e) ∙ z) (λ t z. other t)
+
+pub other-word : {r : Production} {A x w : ℕ} → r ≡ Word A x → (x ≡ w → ⊥) → WordRule w (ruleFrom r) → ⊥
+other-word {w = w} e d t = d (sym (subst (λ (s : Production). WordRule w (ruleFrom s)) e t))
+
+pub no-word : (w : ℕ) (r : Production) → (tagOf the-type r ≡ 1) ⊎ (tagOf the-type r ≡ 2) → WordRule w (ruleFrom r) → ⊥
+no-word w (Word A x) (inl e) t = omega arith
+no-word w (Word A x) (inr e) t = omega arith
+no-word w (SideFirst A a B D) k t = t
+no-word w (SideLast A a D B) k t = t
+
+-- The splits of i to j below `to` that were looked at.
+abbrev pub MeetsTo : ℕ → List ℕ → ℕ → ℕ → ℕ → ℕ → Type 0
+MeetsTo n sets i j to set = (p k : ℕ) → i < k → k < to → bitOf p set ≡ 0
+    → bitOf p (bitAnd (getD sets (2 * spanAt n i k) 0) (getD sets (2 * spanAt n k j + 1) 0)) ≡ 0
+
+pub meets-none : (n : ℕ) (sets : List ℕ) (i j set : ℕ) → MeetsTo n sets i j (i + 1) set
+meets-none n sets i j set p k a b = absurd (omega arith)
+
+pub meets-more : (n : ℕ) (sets : List ℕ) (i j to set first second : ℕ) → MeetsTo n sets i j to set → first ≡ spanAt n i to
+    → second ≡ spanAt n to j
+    → MeetsTo n sets i j (to + 1) (bitOr set (bitAnd (getD sets (2 * first) 0) (getD sets (2 * second + 1) 0)))
+meets-more n sets i j to set first second m f s p k a b z = elim (ℕ-discrete k to) [
+  | yes e ↦
+      let x : first ≡ spanAt n i k = f ∙ ap (spanAt n i) (sym e) in
+      let y : second ≡ spanAt n k j = s ∙ ap (λ (l : ℕ). spanAt n l j) (sym e) in
+      rw (← x, ← y) (or-bits p set both z .1)
+  | no d ↦ m p k a (omega arith) (or-bits p set both z .0)
+]
+  where
+    both : ℕ
+    both = bitAnd (getD sets (2 * first) 0) (getD sets (2 * second + 1) 0)
+
+-- A cell's two sets, of A and, where it has a bare item, of that.
+abbrev Covers : List ℕ → ℕ → ℕ → ℕ → ℕ → Type 0
+Covers by always bared bare set = (p : ℕ) → bitOf p set ≡ 0
+    → (bitOf p (getD by always 0) ≡ 0) × ((bare ≡ 0 → ⊥) → bitOf p (getD by bared 0) ≡ 0)
+
+abbrev pub CellSets : List ℕ → ℕ → ℕ → ℕ → ℕ → Type 0
+CellSets by A bare first second = Covers by (32 + A) (16 + A) bare first × Covers by (64 + A) (48 + A) bare second
+
+pub sets-plain : (by : List ℕ) (A bare : ℕ) {first second : ℕ} → bare ≡ 0 → first ≡ getD by (32 + A) 0 → second ≡ getD by (64 + A) 0
+    → CellSets by A bare first second
+sets-plain by A bare z e d =
+    (λ p h. (sym (ap (bitOf p) e) ∙ h, λ b. absurd (b z)), λ p h. (sym (ap (bitOf p) d) ∙ h, λ b. absurd (b z)))
+
+pub sets-bare : (by : List ℕ) (A bare : ℕ) {first second : ℕ} → first ≡ bitOr (getD by (32 + A) 0) (getD by (16 + A) 0)
+    → second ≡ bitOr (getD by (64 + A) 0) (getD by (48 + A) 0) → CellSets by A bare first second
+sets-bare by A bare e d = (both (32 + A) (16 + A) e, both (64 + A) (48 + A) d)
+  where
+    both : (x y : ℕ) {set : ℕ} → set ≡ bitOr (getD by x 0) (getD by y 0) → Covers by x y bare set
+    both x y e p h = let (u, v) = or-bits p (getD by x 0) (getD by y 0) (sym (ap (bitOf p) e) ∙ h) in (u, λ b. v)
+
+-- They go into the sets of the span, one after the other.
+noted-there : (n : ℕ) (by : List ℕ) (A i j bare : ℕ) (old : List ℕ) (first second : ℕ) → 2 * spanAt n i j + 1 < length old
+    → CellSets by A bare first second
+    → Noted n by A i j bare old (orInto (orInto old (2 * spanAt n i j) first) (2 * spanAt n i j + 1) second)
+noted-there n by A i j bare old first second h (f, g) =
+    let at = 2 * spanAt n i j in
+    let half = orInto old at first in
+    let x : at < length old = omega arith in
+    let y : at + 1 < length half = simp length-set h in
+    record {
+      sameLength = simp length-set;
+      elsewhere = λ s a b. getD-set-other half (at + 1) s _ 0 b ∙ getD-set-other old at s _ 0 a;
+      firsts = λ p z.
+          let (u, v) = into-there old at first x p (into-kept half (at + 1) second y at p z) in
+          let (k, l) = f p v in (u, k, l);
+      seconds = λ p z.
+          let (u, v) = into-there half (at + 1) second y p z in
+          let (k, l) = g p v in (into-kept old at first x (at + 1) p u, k, l);
+    }
+
+pub noted : (n : ℕ) (by : List ℕ) (A i j bare : ℕ) (old : List ℕ) (at first second : ℕ) {a k l : ℕ} → a ≡ A → k ≡ i → l ≡ j
+    → at ≡ spanAt n k l → 2 * at + 1 < length old → CellSets by a bare first second
+    → Noted n by A i j bare old (orInto (orInto old (2 * at) first) (2 * at + 1) second)
+noted n by A i j bare old at first second x y z e h c =
+    let place : at ≡ spanAt n i j = e ∙ ap₂ (spanAt n) y z in
+    subst (λ (s : ℕ). Noted n by A i j bare old (orInto (orInto old (2 * s) first) (2 * s + 1) second)) (sym place)
+    (noted-there n by A i j bare old first second (subst (λ (s : ℕ). 2 * s + 1 < length old) place h)
+    (subst (λ (b : ℕ). CellSets by b bare first second) x c))

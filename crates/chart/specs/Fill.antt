@@ -1,0 +1,133 @@
+-- What holds between two cells, and what filling cells promises.
+use Prim.Native.Nat.{ℕ, zero, suc, _+_, _*_, _-_, _^_, _≤_, _<_}
+use mathlib.Core.Path.{_≡_}
+use mathlib.Core.Bool.{Bool, true, false}
+use mathlib.Core.List.{List, [], _∷_, _++_}
+use mathlib.Core.Option.{Option, none, some}
+use lib.Bits.{bitAnd, bitOr}
+use lib.ListN.{length, take, drop, getD, getElem?, set}
+use Rattle.grammar.specs.Rewriting.{Rule, Lexical, Spine}
+use Rattle.grammar.specs.Items.{Foot}
+use Rattle.grammar.specs.Chart.{Record}
+use Rattle.layout.specs.Records.{chartBytes}
+use Rattle.chart_model.specs.Build.{places}
+use Rattle.chart.specs.declared.index.Range.{Range}
+use Rattle.chart.specs.Bits.{bitOf}
+use Rattle.chart.specs.Room.{chartIn, stateOf, FootFits, FeetFit, markOf}
+use Rattle.chart.specs.Tables.{spanAt, Indexed, Sorted, leftIs, OwnSet}
+
+-- For each nonterminal A five sets of productions, at A, 16 + A, .., 64 + A: those of A; those whose first element is a side A, or a
+-- dependent A; and those whose second is.
+abbrev pub FirstSide : ℕ → Rule → Type 0
+FirstSide A (Lexical A′ w) = ⊥
+FirstSide A (Spine A′ a [] D after) = ⊥
+FirstSide A (Spine A′ a (B ∷ before) D after) = B ≡ A
+
+abbrev pub FirstDependent : ℕ → Rule → Type 0
+FirstDependent A (Lexical A′ w) = ⊥
+FirstDependent A (Spine A′ a [] D after) = D ≡ A
+FirstDependent A (Spine A′ a (B ∷ before) D after) = ⊥
+
+abbrev pub SecondSide : ℕ → Rule → Type 0
+SecondSide A (Lexical A′ w) = ⊥
+SecondSide A (Spine A′ a [] D []) = ⊥
+SecondSide A (Spine A′ a [] D (B ∷ after)) = B ≡ A
+SecondSide A (Spine A′ a (B ∷ before) D after) = ⊥
+
+abbrev pub SecondDependent : ℕ → Rule → Type 0
+SecondDependent A (Lexical A′ w) = ⊥
+SecondDependent A (Spine A′ a [] D after) = ⊥
+SecondDependent A (Spine A′ a (B ∷ before) D after) = D ≡ A
+
+-- The set has every production that a test names.
+abbrev pub SetOf : List Rule → (Rule → Type 0) → ℕ → Type 0
+SetOf g test set = (p : ℕ) (r : Rule) → getElem? g p ≡ some r → bitOf p set ≡ 0 → test r → ⊥
+
+pub record Classified (g : List Rule) (by : List ℕ) : Type 0 where
+  pub own : (A : ℕ) → A < 16 → OwnSet g A (getD by A 0)
+  pub firstSides : (A : ℕ) → A < 16 → SetOf g (FirstSide A) (getD by (16 + A) 0)
+  pub firstDependents : (A : ℕ) → A < 16 → SetOf g (FirstDependent A) (getD by (32 + A) 0)
+  pub secondSides : (A : ℕ) → A < 16 → SetOf g (SecondSide A) (getD by (48 + A) 0)
+  pub secondDependents : (A : ℕ) → A < 16 → SetOf g (SecondDependent A) (getD by (64 + A) 0)
+
+-- Production p into the set at a place; and into each set that its rule asks for, where no set loses a bit or
+-- gains another.
+abbrev pub withBit : List ℕ → ℕ → ℕ → List ℕ
+withBit by at p = set by at (bitOr (getD by at 0) (2 ^ p))
+
+pub record Joined (r : Rule) (p : ℕ) (old new : List ℕ) : Type 0 where
+  pub sameLength : length new ≡ length old
+  pub kept : (s q : ℕ) → bitOf q (getD new s 0) ≡ 0 → bitOf q (getD old s 0) ≡ 0
+  pub others : (s q : ℕ) → (q ≡ p → ⊥) → bitOf q (getD old s 0) ≡ 0 → bitOf q (getD new s 0) ≡ 0
+  pub own : (A : ℕ) → leftIs A r → bitOf p (getD new A 0) ≡ 0 → ⊥
+  pub firstSide : (A : ℕ) → FirstSide A r → bitOf p (getD new (16 + A) 0) ≡ 0 → ⊥
+  pub firstDependent : (A : ℕ) → FirstDependent A r → bitOf p (getD new (32 + A) 0) ≡ 0 → ⊥
+  pub secondSide : (A : ℕ) → SecondSide A r → bitOf p (getD new (48 + A) 0) ≡ 0 → ⊥
+  pub secondDependent : (A : ℕ) → SecondDependent A r → bitOf p (getD new (64 + A) 0) ≡ 0 → ⊥
+
+-- The word productions for w are in the set; and the productions that have both elements at some split.
+abbrev pub WordRule : ℕ → Rule → Type 0
+WordRule w (Lexical A w′) = w ≡ w′
+WordRule w (Spine A a before D after) = ⊥
+
+abbrev pub Meets : ℕ → List ℕ → ℕ → ℕ → ℕ → Type 0
+Meets n sets i j set = (p k : ℕ) → i < k → k < j → bitOf p set ≡ 0
+    → bitOf p (bitAnd (getD sets (2 * spanAt n i k) 0) (getD sets (2 * spanAt n k j + 1) 0)) ≡ 0
+
+-- The set of a span has every production that can add to it.
+pub record SpanSet (g : List Rule) (n : ℕ) (sets words : List ℕ) (i j set : ℕ) : Type 0 where
+  pub ofWord : j ≡ i + 1 → SetOf g (WordRule (getD words i 0)) set
+  pub ofSplits : i + 1 < j → Meets n sets i j set
+
+-- A cell's records are noted in the sets of its span: a bit is 0 afterwards only if it was, and if the cell's own sets lack it.
+pub record Noted (n : ℕ) (by : List ℕ) (A i j bare : ℕ) (old new : List ℕ) : Type 0 where
+  pub sameLength : length new ≡ length old
+  pub elsewhere : (s : ℕ) → (s ≡ 2 * spanAt n i j → ⊥) → (s ≡ 2 * spanAt n i j + 1 → ⊥) → getD new s 0 ≡ getD old s 0
+  pub firsts : (p : ℕ) → bitOf p (getD new (2 * spanAt n i j) 0) ≡ 0
+      → (bitOf p (getD old (2 * spanAt n i j) 0) ≡ 0) × (bitOf p (getD by (32 + A) 0) ≡ 0)
+      × ((bare ≡ 0 → ⊥) → bitOf p (getD by (16 + A) 0) ≡ 0)
+  pub seconds : (p : ℕ) → bitOf p (getD new (2 * spanAt n i j + 1) 0) ≡ 0
+      → (bitOf p (getD old (2 * spanAt n i j + 1) 0) ≡ 0) × (bitOf p (getD by (64 + A) 0) ≡ 0)
+      × ((bare ≡ 0 → ⊥) → bitOf p (getD by (48 + A) 0) ≡ 0)
+
+-- Between two cells: the room and the tables agree, and no foot is marked. No number in the index is past the count, so that none
+-- comes to stand for records when the count grows.
+pub record Between (g : List Rule) (n N room : ℕ) (chart marks index sets : List ℕ) (count : ℕ) : Type 0 where
+  pub wordsFit : n ≤ 24
+  pub symbolsFit : N ≤ 16
+  pub roomSmall : room ≤ 65535
+  pub roomThere : 16 * room ≤ length chart
+  pub marksThere : N * n * n < length marks
+  pub countFits : count ≤ room
+  pub exact : take (16 * count) chart ≡ chartBytes (chartIn chart count)
+  pub feet : FeetFit n N (chartIn chart count)
+  pub clear : (φ : Foot) → FootFits n N φ → markOf n marks φ ≡ false
+  pub indexed : Indexed n N (chartIn chart count) index
+  pub within : (k : ℕ) → getD index k 0 ≤ count
+  pub sorted : Sorted g n (chartIn chart count) sets
+
+-- Cells were filled: the room holds what the model has, the bytes past it are as they were, and the tables agree again. `Other` names
+-- the cells that have kept their records.
+pub record Filled (g : List Rule) (n N room : ℕ) (Other : ℕ → ℕ → ℕ → Type 0) (s : Option (List Record)) (old : List ℕ) (count : ℕ)
+    (new marks index sets : List ℕ) (after : ℕ) : Type 0 where
+  pub sameRoom : length new ≡ length old
+  pub model : stateOf room new after ≡ s
+  pub rest : after ≤ room → drop (16 * after) new ≡ drop (16 * after) old
+  pub ready : after ≤ room → Between g n N room new marks index sets after
+  pub others : after ≤ room → (A i j : ℕ) → Other A i j → places (chartIn new after) A i j ≡ places (chartIn old count) A i j
+
+-- Cells other than one, than those of one span, and than those of one length.
+abbrev pub OtherCell : ℕ → ℕ → ℕ → ℕ → ℕ → ℕ → Type 0
+OtherCell A i j A′ i′ j′ = A′ ≡ A → i′ ≡ i → j′ ≡ j → ⊥
+
+abbrev pub OtherSpan : ℕ → ℕ → ℕ → ℕ → ℕ → Type 0
+OtherSpan i j A′ i′ j′ = i′ ≡ i → j′ ≡ j → ⊥
+
+abbrev pub OtherLength : ℕ → ℕ → ℕ → ℕ → Type 0
+OtherLength len A′ i′ j′ = j′ ≡ i′ + len → ⊥
+
+-- All spans are closed: the room holds the model's chart and then what was there; or an item did not fit.
+pub record Closed (room : ℕ) (s : Option (List Record)) (old new : List ℕ) (after : ℕ) : Type 0 where
+  pub sameRoom : length new ≡ length old
+  pub over : s ≡ none → room < after
+  pub charted : (c : List Record) → s ≡ some c → (after ≡ length c) × (new ≡ chartBytes c ++ drop (16 * length c) old)

@@ -1,0 +1,131 @@
+-- The tables beside the room: where each cell's records stand, and which productions have an element over a span.
+use Prim.Native.Nat.{ℕ, zero, suc, _+_, _*_, _-_, _≤_, _<_}
+use mathlib.Core.Path.{_≡_}
+use mathlib.Core.Bool.{Bool, true, false, cond, _&&_, _||_}
+use mathlib.Core.List.{List, [], _∷_}
+use mathlib.Core.Option.{Option, none, some}
+use lib.Dec.{eqb, ltb}
+use lib.ListN.{length, getD, getElem?, take}
+use Rattle.grammar.specs.Rewriting.{Rule, Lexical, Spine, Action, Take, Keep, Give}
+use Rattle.grammar.specs.ItemList.{isBare}
+use Rattle.grammar.specs.Chart.{Record}
+use Rattle.layout.specs.Bytes.{counted}
+use Rattle.card.specs.Productions.{ruleFrom}
+use Rattle.card.specs.declared.Production.{Production}
+use Rattle.chart_model.specs.Build.{places, barePlaces, byRule}
+use Rattle.chart.specs.declared.index.Range.{Range}
+use Rattle.chart.specs.Bits.{bitOf, holdsBit}
+use Rattle.chart.specs.Room.{footThere, markSlot}
+
+-- The place of the span i to j in a table over n words, and of the cell of A over it in a table of N nonterminals a span.
+abbrev pub spanAt : ℕ → ℕ → ℕ → ℕ
+spanAt n i j = i * n + (j - 1)
+
+abbrev pub cellAt : ℕ → ℕ → ℕ → ℕ → ℕ → ℕ
+cellAt n N A i j = spanAt n i j * N + A
+
+-- A cell's three numbers: its first position, the one past its last, and one more than that of its bare item, or 0. Numbers past the
+-- base, the count of records that were there when the present cell was begun, stand for no records.
+abbrev pub emptyRange : Range
+emptyRange = record { from = 0; to = 0; bare = 0 }
+
+abbrev pub rangeIn : List ℕ → ℕ → ℕ → Range
+rangeIn index cell base =
+    cond (ltb base (getD index (3 * cell + 1) 0) || ltb base (getD index (3 * cell + 2) 0)) emptyRange
+    (record { from = getD index (3 * cell) 0; to = getD index (3 * cell + 1) 0; bare = getD index (3 * cell + 2) 0 })
+
+abbrev pub bareIn : ℕ → List ℕ
+bareIn zero = []
+bareIn (suc m) = m ∷ []
+
+-- The table says where the records of b stand: for every cell, filled or not.
+pub record Indexed (n N : ℕ) (b : List Record) (index : List ℕ) : Type 0 where
+  pub long : 3 * (n * n * N) ≤ length index
+  pub ranges : (A i j : ℕ) → A < N → i < j → j ≤ n → let r = rangeIn index (cellAt n N A i j) (length b) in
+      places b A i j ≡ counted (r .from) (r .to - r .from)
+  pub bares : (A i j : ℕ) → A < N → i < j → j ≤ n → barePlaces b A i j ≡ bareIn (rangeIn index (cellAt n N A i j) (length b) .bare)
+
+-- Neither element of a rule over a split: what the sets let the builder pass over.
+abbrev pub FirstAbsent : List Record → ℕ → ℕ → Rule → Type 0
+FirstAbsent b i k (Lexical A w) = Unit {0}
+FirstAbsent b i k (Spine A a [] D after) = places b D i k ≡ []
+FirstAbsent b i k (Spine A a (B ∷ before) D after) = barePlaces b B i k ≡ []
+
+abbrev pub SecondAbsent : List Record → ℕ → ℕ → Rule → Type 0
+SecondAbsent b k j (Lexical A w) = Unit {0}
+SecondAbsent b k j (Spine A a [] D []) = Unit {0}
+SecondAbsent b k j (Spine A a [] D (B ∷ after)) = barePlaces b B k j ≡ []
+SecondAbsent b k j (Spine A a (B ∷ before) D after) = places b D k j ≡ []
+
+-- For each span two sets of productions: those whose first element is there, and those whose second is.
+pub record Sorted (g : List Rule) (n : ℕ) (b : List Record) (sets : List ℕ) : Type 0 where
+  pub long : 2 * (n * n) ≤ length sets
+  pub firsts : (p : ℕ) (r : Rule) (i k : ℕ) → getElem? g p ≡ some r → i < k → k ≤ n
+      → bitOf p (getD sets (2 * spanAt n i k) 0) ≡ 0 → FirstAbsent b i k r
+  pub seconds : (p : ℕ) (r : Rule) (k j : ℕ) → getElem? g p ≡ some r → k < j → j ≤ n
+      → bitOf p (getD sets (2 * spanAt n k j + 1) 0) ≡ 0 → SecondAbsent b k j r
+
+-- The left side of a rule; and a set that has every production of A, and no bit past the last production.
+abbrev pub leftIs : ℕ → Rule → Type 0
+leftIs A (Lexical A′ w) = A′ ≡ A
+leftIs A (Spine A′ a before D after) = A′ ≡ A
+
+pub record OwnSet (g : List Rule) (A own : ℕ) : Type 0 where
+  pub has : (p : ℕ) (r : Rule) → getElem? g p ≡ some r → bitOf p own ≡ 0 → leftIs A r → ⊥
+  pub noMore : (p : ℕ) → length g ≤ p → bitOf p own ≡ 0
+
+-- The rules of decoded productions, the first `many` of them as a grammar, and one of them.
+abbrev pub rulesFrom : List Production → List Rule
+rulesFrom [] = []
+rulesFrom (r ∷ rules) = ruleFrom r ∷ rulesFrom rules
+
+abbrev pub grammarIn : List Production → ℕ → List Rule
+grammarIn rules many = take many (rulesFrom rules)
+
+-- A nonterminal over a stretch, an action and a rule whose parts are counted.
+abbrev pub SpanFits : ℕ → ℕ → ℕ → ℕ → ℕ → Type 0
+SpanFits n N D k m = (D < N) × (k < m) × (m ≤ n)
+
+abbrev pub ActionFits : Action → Type 0
+ActionFits (Take γ) = (1 ≤ γ) × (γ ≤ 8)
+ActionFits Keep = Unit {0}
+ActionFits (Give γ) = (1 ≤ γ) × (γ ≤ 8)
+
+abbrev pub SymbolsFit : ℕ → List ℕ → Type 0
+SymbolsFit N [] = Unit {0}
+SymbolsFit N (B ∷ Bs) = (B < N) × SymbolsFit N Bs
+
+abbrev pub RuleFits : ℕ → Rule → Type 0
+RuleFits N (Lexical A w) = A < N
+RuleFits N (Spine A a before D after) = (A < N) × ActionFits a × SymbolsFit N before × (D < N) × SymbolsFit N after
+
+abbrev pub RulesFit : ℕ → List Production → Type 0
+RulesFit N rules = (p : ℕ) (r : Rule) → getElem? (rulesFrom rules) p ≡ some r → RuleFits N r
+
+-- The records of production p at a split, if the set has it.
+abbrev pub byOne : List Record → ℕ → ℕ → ℕ → ℕ → ℕ → Option Rule → List Record
+byOne b A i k j p none = []
+byOne b A i k j p (some r) = byRule b A i k j p r
+
+abbrev pub chosen : ℕ → List Production → List Record → ℕ → ℕ → ℕ → ℕ → ℕ → List Record
+chosen set rules b A i k j p = cond (holdsBit p set) (byOne b A i k j p (getElem? (rulesFrom rules) p)) []
+
+-- The word at the present place; and whether a rule is the word production of A for it.
+abbrev pub thisWord : ℕ → ℕ → ℕ → Bool
+thisWord w i w′ = eqb w w′
+
+abbrev pub isWordOf : ℕ → ℕ → Rule → Bool
+isWordOf A w (Lexical A′ w′) = eqb A′ A && eqb w w′
+isWordOf A w (Spine A′ a before D after) = false
+
+-- A cell is finished: no mark is left of its records from base on, other marks are as they were, and its range is known.
+abbrev pub bareFrom : List ℕ → ℕ → ℕ → ℕ
+bareFrom chart base zero = 0
+bareFrom chart base (suc m) = cond (isBare (footThere chart (base + m))) (suc (base + m)) (bareFrom chart base m)
+
+pub record Finished (chart : List ℕ) (n base count : ℕ) (old new : List ℕ) (r : Range) : Type 0 where
+  pub sameLength : length new ≡ length old
+  pub range : r ≡ record { from = base; to = count; bare = bareFrom chart base (count - base) }
+  pub cleared : (m : ℕ) → base ≤ m → m < count → getD new (markSlot n (footThere chart m)) 0 ≡ 0
+  pub shrunk : (s : ℕ) → getD old s 0 ≡ 0 → getD new s 0 ≡ 0
+  pub others : (s : ℕ) → ((m : ℕ) → base ≤ m → m < count → markSlot n (footThere chart m) ≡ s → ⊥) → getD new s 0 ≡ getD old s 0

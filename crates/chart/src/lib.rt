@@ -1,0 +1,36 @@
+// The chart builder (document 01, "The chart"): the derivable items of an accepted line, each once, in a lent room.
+mod add;
+mod build;
+mod cell;
+mod index;
+mod marks;
+mod record;
+mod room;
+mod rules;
+mod sets;
+mod sized;
+mod step;
+
+ghost use lib.ListN.{take};
+ghost use Rattle.chart.specs.Built.{Buildable, BuiltRoom};
+
+// The number of items, or that they outnumber what the room holds.
+pub enum Built {
+    Chart(usize),
+    TooMany,
+}
+
+// The chart of n words under an accepted card, if the room holds it; if not, the room is cleared. What the room held before does not
+// matter.
+pub fn build_chart(card: &[u8], words: &[u8; 24], n: usize, chart: &mut [u8]) -> Built
+    requires { ⌜ Buildable (now card) (now words) n ⌝ }
+    ensures { λ r. ⌜ BuiltRoom (now (card .entry)) (take n (now (words .entry))) n r (now (chart .entry)) (now (chart .exit)) ⌝ }
+{
+    let holds = room::capacity(chart.len());
+    let count = sized::build_in(card, words, n, holds, chart);
+    if holds < count {
+        room::clear(chart);
+        return Built::TooMany;
+    }
+    Built::Chart(count)
+}

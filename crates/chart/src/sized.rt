@@ -1,0 +1,114 @@
+// The tables beside the room, on the stack. Short lines get short tables, so that clearing them costs little.
+use card::Card;
+ghost use mathlib.Core.Path.{_≡_};
+ghost use Prim.Native.Nat.{_+_, _*_, _≤_, _<_};
+ghost use lib.ListN.{length, take, replicate};
+ghost use Rattle.grammar.specs.Input.{wordIs};
+ghost use Rattle.layout.specs.Card.{grammarOf, nonterminalCount};
+ghost use Rattle.chart_model.specs.Build.{build};
+ghost use Rattle.chart.specs.Built.{Buildable, RoomLent, TablesLent};
+ghost use Rattle.chart.specs.Fill.{Closed};
+
+// With tables that are all 0 and long enough for n words.
+fn build_with(
+    card: &[u8],
+    words: &[u8; 24],
+    n: usize,
+    room: usize,
+    chart: &mut [u8],
+    marks: &mut [u8],
+    index: &mut [u16],
+    sets: &mut [u64],
+) -> usize
+    requires { ⌜ Buildable (now card) (now words) n × RoomLent room (now chart) × TablesLent n (now marks) (now index) (now sets) ⌝ }
+    ensures { λ r. ⌜ Closed room (build room (grammarOf (now (card .entry))) (wordIs (take n (now (words .entry)))) (nonterminalCount (now (card .entry))) n) (now (chart .entry)) (now (chart .exit)) r ⌝ }
+{
+    let counts = Card::of(card);
+    let many = counts.productions;
+    let symbols = counts.nonterminals;
+    let rules = crate::rules::decode_all(card, many);
+    let by = crate::sets::classify(rules, many);
+    crate::build::close_all(
+        chart,
+        marks,
+        index,
+        sets,
+        &by,
+        n,
+        symbols,
+        room,
+        rules,
+        many,
+        words,
+    )
+}
+
+fn build_short(card: &[u8], words: &[u8; 24], n: usize, room: usize, chart: &mut [u8]) -> usize
+    requires { ⌜ Buildable (now card) (now words) n × RoomLent room (now chart) × (n ≤ 6) ⌝ }
+    ensures { λ r. ⌜ Closed room (build room (grammarOf (now (card .entry))) (wordIs (take n (now (words .entry)))) (nonterminalCount (now (card .entry))) n) (now (chart .entry)) (now (chart .exit)) r ⌝ }
+{
+    let mut marks = [0u8; 577];
+    let mut index = [0u16; 1728];
+    let mut sets = [0u64; 72];
+    build_with(
+        card,
+        words,
+        n,
+        room,
+        chart,
+        &mut marks,
+        &mut index,
+        &mut sets,
+    )
+}
+
+fn build_middle(card: &[u8], words: &[u8; 24], n: usize, room: usize, chart: &mut [u8]) -> usize
+    requires { ⌜ Buildable (now card) (now words) n × RoomLent room (now chart) × (n ≤ 12) ⌝ }
+    ensures { λ r. ⌜ Closed room (build room (grammarOf (now (card .entry))) (wordIs (take n (now (words .entry)))) (nonterminalCount (now (card .entry))) n) (now (chart .entry)) (now (chart .exit)) r ⌝ }
+{
+    let mut marks = [0u8; 2305];
+    let mut index = [0u16; 6912];
+    let mut sets = [0u64; 288];
+    build_with(
+        card,
+        words,
+        n,
+        room,
+        chart,
+        &mut marks,
+        &mut index,
+        &mut sets,
+    )
+}
+
+fn build_long(card: &[u8], words: &[u8; 24], n: usize, room: usize, chart: &mut [u8]) -> usize
+    requires { ⌜ Buildable (now card) (now words) n × RoomLent room (now chart) ⌝ }
+    ensures { λ r. ⌜ Closed room (build room (grammarOf (now (card .entry))) (wordIs (take n (now (words .entry)))) (nonterminalCount (now (card .entry))) n) (now (chart .entry)) (now (chart .exit)) r ⌝ }
+{
+    let mut marks = [0u8; 9217];
+    let mut index = [0u16; 27648];
+    let mut sets = [0u64; 1152];
+    build_with(
+        card,
+        words,
+        n,
+        room,
+        chart,
+        &mut marks,
+        &mut index,
+        &mut sets,
+    )
+}
+
+pub fn build_in(card: &[u8], words: &[u8; 24], n: usize, room: usize, chart: &mut [u8]) -> usize
+    requires { ⌜ Buildable (now card) (now words) n × RoomLent room (now chart) ⌝ }
+    ensures { λ r. ⌜ Closed room (build room (grammarOf (now (card .entry))) (wordIs (take n (now (words .entry)))) (nonterminalCount (now (card .entry))) n) (now (chart .entry)) (now (chart .exit)) r ⌝ }
+{
+    if n <= 6 {
+        return build_short(card, words, n, room, chart);
+    }
+    if n <= 12 {
+        return build_middle(card, words, n, room, chart);
+    }
+    build_long(card, words, n, room, chart)
+}

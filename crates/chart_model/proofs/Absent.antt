@@ -1,0 +1,73 @@
+-- A cell has no candidates where no rule makes any: none for its word, and none at any split of its span.
+-- And a rule makes none of a dependent that is not there. Each list is empty since each of its parts is.
+use Prim.Native.Nat.{ℕ, zero, suc, _+_, _≤_, _<_}
+use native.Mathlib.Nat.{zero-add}
+use native.Mathlib.Decide.{ℕ-discrete}
+use native.Mathlib.Omega.{arith}
+use mathlib.Core.Path.{_≡_, refl, sym}
+use mathlib.Core.Bool.{Bool, true, false, false≢true}
+use mathlib.Core.List.{List, [], _∷_, append-nil}
+use mathlib.Core.Option.{Option, none, some}
+use lib.ListN.{length, getElem?}
+use Rattle.grammar.specs.Lists.{concatMap}
+use Rattle.grammar.specs.Rewriting.{Rule, Action, Take, Keep, Give}
+use Rattle.grammar.specs.Chart.{Record}
+use Rattle.chart_model.specs.Build.{flatUp, places, byAction, byRule, byProduction, atSplit, byWordRule, byWord, candidates}
+
+pub concatMap-none : {A B : Type 0} (f : A → List B) (l : List A) → ((x : A) → f x ≡ []) → concatMap f l ≡ []
+concatMap-none f [] h = refl
+concatMap-none f (x ∷ l) h = rw (h x, concatMap-none f l h)
+
+pub flatUp-none : {A : Type 0} (f : ℕ → List A) (from m : ℕ) → ((k : ℕ) → from ≤ k → k < from + m → f k ≡ []) → flatUp f from m ≡ []
+flatUp-none f from zero h = refl
+flatUp-none f from (suc m) h =
+    rw (flatUp-none f from m (λ k a b. h k a (omega arith)), h (from + m) (omega arith) (omega arith))
+
+-- Places that have nothing may be counted too.
+pub flatUp-past : {A : Type 0} (f : ℕ → List A) (m k : ℕ) → m ≤ k → ((l : ℕ) → m ≤ l → f l ≡ []) → flatUp f 0 k ≡ flatUp f 0 m
+flatUp-past f m zero h e = let q : m ≡ 0 = omega arith in rw q
+flatUp-past f m (suc k) h e = elim (ℕ-discrete m (suc k)) [
+  | yes q ↦ rw q
+  | no d ↦ rw (zero-add, e k (omega arith), append-nil) (flatUp-past f m k (omega arith) e)
+]
+
+pub flatUp-same : {A : Type 0} (f g : ℕ → List A) (from m : ℕ) → ((k : ℕ) → f k ≡ g k) → flatUp f from m ≡ flatUp g from m
+flatUp-same f g from zero e = refl
+flatUp-same f g from (suc m) e = rw (flatUp-same f g from m e, e (from + m))
+
+pub getElem-past : {A : Type 0} (l : List A) (k : ℕ) → length l ≤ k → getElem? l k ≡ none
+getElem-past [] k h = refl
+getElem-past (x ∷ l) zero h = absurd (omega arith)
+getElem-past (x ∷ l) (suc k) h = getElem-past l k (omega arith)
+
+pub choice-none : {A : Type 0} (b : Bool) (l : List A) → l ≡ [] → _≡_ {A = List A} (elim b [ true ↦ l | false ↦ [] ]) []
+choice-none true l e = e
+choice-none false l e = refl
+
+pub choice-false : {A : Type 0} (b : Bool) (l : List A) → b ≡ false → _≡_ {A = List A} (elim b [ true ↦ l | false ↦ [] ]) []
+choice-false true l e = absurd (false≢true (sym e))
+choice-false false l e = refl
+
+option-none : {A B : Type 0} (f : A → List B) (o : Option A) → ((a : A) → o ≡ some a → f a ≡ [])
+    → _≡_ {A = List B} (elim o [ none ↦ [] | some a ↦ f a ]) []
+option-none f none h = refl
+option-none f (some a) h = h a refl
+
+pub action-none : (c : List Record) (a : Action) (D k m A i j p x : ℕ) → places c D k m ≡ [] → byAction c a D k m A i j p x ≡ []
+action-none c (Take γ) D k m A i j p x e = rw e
+action-none c Keep D k m A i j p x e = rw e
+action-none c (Give γ) D k m A i j p x e = rw e
+
+module _ (g : List Rule) (at : ℕ → ℕ → Bool) (c : List Record) (A i : ℕ) where
+  pub words-none : ((p : ℕ) (r : Rule) → getElem? g p ≡ some r → byWordRule at A i p r ≡ []) → candidates g at c A i 1 ≡ []
+  words-none h =
+      flatUp-none (byWord g at A i) 0 (length g) (λ p a b. option-none (byWordRule at A i p) (getElem? g p) (λ r e. h p r e))
+
+  pub splits-none : (len : ℕ)
+      → ((k p : ℕ) (r : Rule) → i < k → k < i + suc (suc len) → getElem? g p ≡ some r → byRule c A i k (i + suc (suc len)) p r ≡ [])
+      → candidates g at c A i (suc (suc len)) ≡ []
+  splits-none len h =
+      let j = i + suc (suc len) in
+      flatUp-none (atSplit g c A i j) (suc i) (suc len)
+      (λ k a b. flatUp-none (byProduction g c A i k j) 0 (length g)
+      (λ p _ _. option-none (byRule c A i k j p) (getElem? g p) (λ r e. h k p r a (omega arith) e)))

@@ -1,0 +1,5 @@
+pub mod BuildLaws
+pub mod Candidates
+pub mod Exact
+pub mod FillModel
+pub mod Absent

@@ -1,0 +1,1 @@
+// Definitions and theory only: no function is compiled from this crate.

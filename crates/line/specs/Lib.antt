@@ -1,0 +1,3 @@
+pub mod Words
+pub mod Lookup
+pub mod Accepted

@@ -1,0 +1,4 @@
+pub mod Goals
+pub mod Shown
+pub mod Matching
+pub mod Paired

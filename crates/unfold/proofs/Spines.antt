@@ -1,0 +1,206 @@
+-- What the two unfoldings need at each call, over plain values: a record's two parts are shorter than it, and a plan has two steps for
+-- each word less one, so the step and the parts' plans, one after the other, fill the room that the record's plan takes.
+use Prim.Native.Nat.{ℕ, _+_, _*_, _-_, _≤_, _<_}
+use native.Mathlib.Nat.{le-refl}
+use native.Mathlib.Omega.{arith}
+use mathlib.Core.Path.{_≡_, refl, sym, _∙_, ap, subst}
+use mathlib.Core.List.{List, [], _∷_, _++_, append-nil}
+use lib.ListN.{length}
+use Rattle.grammar.specs.Rewriting.{Lexical, Spine, Action, nonterminal}
+use Rattle.grammar.specs.Input.{Holds, wordIs}
+use Rattle.grammar.specs.Items.{Foot}
+use Rattle.grammar.specs.Plan.{PlanStep, planStep, Yields}
+use Rattle.grammar.specs.Chart.{Record, onward}
+use Rattle.grammar.proofs.Unfolding.{Pends, settled, awaits, unfolds-yields}
+use Rattle.grammar.proofs.PlanSize.{plan-length, stack-depth}
+use Rattle.layout.specs.Bytes.{byteAt, wordAt}
+use Rattle.layout.specs.Card.{production, grammarOf}
+use Rattle.layout.specs.Records.{recordAt, chartIn}
+use Rattle.layout.specs.Steps.{stepBytes, planRoom}
+use Rattle.layout.proofs.CardLaws.{card-one-sided}
+use Rattle.card.specs.Productions.{actionFrom, ruleFrom}
+use Rattle.card.specs.declared.Action.{Action as Decoded}
+use Rattle.card.specs.declared.Production.{Production}
+use Rattle.card.specs.declared.Production.the-variants.{Word, SideFirst, SideLast}
+use Rattle.unfold.specs.declared.Step.{Step}
+use Rattle.unfold.specs.declared.Pending.{Pending}
+use Rattle.unfold.specs.declared.Next.{Next}
+use Rattle.unfold.specs.Spine.{nameAt, fromAt, toAt, spanAt, StepOf, waiting, GoesOn, Wrote, Ready, Asked, Unfolded}
+use Rattle.unfold.proofs.Writing.{plan-bytes, plan-join, wrote-length, wrote-then}
+use Rattle.unfold.proofs.Waiting.{waiting-length}
+use Rattle.unfold.proofs.Places.{table-stands}
+use Rattle.unfold.proofs.Turns.{Part, Parts, Turn, ofWord, ofFirst, ofLast, step-yields, turn}
+
+-- As deep as the stack.
+pends-length : {c : List Record} {φ : Foot} {s pending : List ℕ} → Pends c φ s pending → length s ≡ length pending
+pends-length settled = refl
+pends-length (awaits r ps) = let e = pends-length ps in omega arith
+
+module _ {card words chart : List ℕ} {count m : ℕ} {s pending : List ℕ} (ready : Ready card words chart count m s pending) where
+  pub depth-below : length pending < spanAt chart m
+  depth-below =
+      let y = unfolds-yields (grammarOf card) (Holds (wordIs words)) (chartIn chart count) (ready .held .justified) (spanAt chart m) m
+      (table-stands (recordAt chart) (ready .inside)) refl (ready .pends) (le-refl (spanAt chart m)) in
+      omega (arith, stack-depth (grammarOf card) (Holds (wordIs words)) (card-one-sided card) y, pends-length (ready .pends))
+
+  pub record-inside : 16 * m + 16 ≤ length chart
+  record-inside = omega (arith, ready .inside, ready .held .there)
+
+  -- The record by its step's fields.
+  turn-at : {p x y z : ℕ} → p ≡ byteAt chart (16 * m + 7) → x ≡ wordAt chart (16 * m + 8) → y ≡ wordAt chart (16 * m + 10)
+      → z ≡ wordAt chart (16 * m + 12)
+      → Turn card words chart count (byteAt chart (16 * m + 7)) (nameAt chart m) (fromAt chart m) (toAt chart m) x y z s pending
+      (production card p)
+  turn-at e₀ e₁ e₂ e₃ = rw (e₀, e₁, e₂, e₃) (turn ready)
+
+-- A give has a place for its continuation.
+pub depth-fits : {card words chart : List ℕ} {count m : ℕ} {s : List ℕ} (pending : Pending) {st : Step}
+    → Ready card words chart count m s (waiting pending) → StepOf chart m st → spanAt chart m ≤ 24
+    → (pending .depth < 24) × (st .continuation < 65536)
+depth-fits pending ready read h = (omega (arith, depth-below ready, waiting-length (pending .items) (pending .depth)), read .narrow)
+
+-- What a record comes to where its rule is known.
+module _ {card words chart : List ℕ} {count p A i j x y z : ℕ} {s pending : List ℕ} where
+  word-of : {A′ w : ℕ} → Turn card words chart count p A i j x y z s pending (Lexical A′ w)
+      → Yields (grammarOf card) (Holds (wordIs words)) (nonterminal A s ∷ []) i j (planStep p i j j ∷ [])
+  word-of (ofWord h) = h
+
+  first-of : {A′ B D pos : ℕ} {rest : List ℕ} (a : Action)
+      → Turn card words chart count p A i j x y z s pending (Spine A′ a (B ∷ []) D []) → pos ≡ onward a y z pending .position
+      → rest ≡ onward a y z pending .pending → (t : List ℕ) × Parts card words chart count p A i j s x [] [] pos t rest
+  first-of a (ofFirst t h) e f = (t, rw (e, f) h)
+
+  last-of : {A′ B D pos : ℕ} {rest : List ℕ} (a : Action)
+      → Turn card words chart count p A i j x y z s pending (Spine A′ a [] D (B ∷ [])) → pos ≡ onward a y z pending .position
+      → rest ≡ onward a y z pending .pending → (t : List ℕ) × Parts card words chart count p A i j s pos t rest x [] []
+  last-of a (ofLast t h) e f = (t, rw (e, f) h)
+
+-- The same as the code has it: the step st, the decoded rule, and where the spine goes on.
+abbrev pub FirstParts : List ℕ → List ℕ → List ℕ → ℕ → ℕ → List ℕ → Step → Next → Type 0
+FirstParts card words chart count m s st o =
+    (t : List ℕ) × Parts card words chart count (byteAt chart (16 * m + 7)) (nameAt chart m) (fromAt chart m) (toAt chart m) s
+    (st .side) [] [] (o .position) t (waiting (o .pending))
+
+abbrev pub LastParts : List ℕ → List ℕ → List ℕ → ℕ → ℕ → List ℕ → Step → Next → Type 0
+LastParts card words chart count m s st o =
+    (t : List ℕ) × Parts card words chart count (byteAt chart (16 * m + 7)) (nameAt chart m) (fromAt chart m) (toAt chart m) s
+    (o .position) t (waiting (o .pending)) (st .side) [] []
+
+module _ {card words chart : List ℕ} {count m : ℕ} {s : List ℕ} (pending : Pending) (st : Step) (rule : Production)
+    (ready : Ready card words chart count m s (waiting pending)) (read : StepOf chart m st)
+    (decoded : ruleFrom rule ≡ production card (st .production)) where
+  ruled : (r : Production) → rule ≡ r
+      → Turn card words chart count (byteAt chart (16 * m + 7)) (nameAt chart m) (fromAt chart m) (toAt chart m) (st .side)
+      (st .dependent) (st .continuation) s (waiting pending) (ruleFrom r)
+  ruled r e =
+      subst (Turn card words chart count _ _ _ _ _ _ _ _ _) (sym decoded ∙ ap ruleFrom e)
+      (turn-at ready (read .production) (read .side) (read .dependent) (read .continuation))
+
+  pub word-turn : {A′ w : ℕ} → rule ≡ Word A′ w
+      → Yields (grammarOf card) (Holds (wordIs words)) (nonterminal (nameAt chart m) s ∷ []) (fromAt chart m) (toAt chart m)
+      (planStep (st .production) (st .from) (st .to) (st .to) ∷ [])
+  word-turn {A′} {w} e =
+      let same : planStep (st .production) (st .from) (st .to) (st .to)
+      ≡ planStep (byteAt chart (16 * m + 7)) (fromAt chart m) (toAt chart m) (toAt chart m) = cc in
+      subst (λ (k : PlanStep). Yields (grammarOf card) (Holds (wordIs words)) (nonterminal (nameAt chart m) s ∷ []) (fromAt chart m)
+      (toAt chart m) (k ∷ [])) (sym same) (word-of (ruled (Word A′ w) e))
+
+  pub first-turn : {A′ B D : ℕ} {a : Decoded} {o : Next} → rule ≡ SideFirst A′ a B D → GoesOn a st pending o
+      → FirstParts card words chart count m s st o
+  first-turn {A′} {B} {D} {a} e goes = first-of (actionFrom a) (ruled (SideFirst A′ a B D) e) (goes .position) (goes .rest)
+
+  pub last-turn : {A′ B D : ℕ} {a : Decoded} {o : Next} → rule ≡ SideLast A′ a D B → GoesOn a st pending o
+      → LastParts card words chart count m s st o
+  last-turn {A′} {B} {D} {a} e goes = last-of (actionFrom a) (ruled (SideLast A′ a D B) e) (goes .position) (goes .rest)
+
+-- A plan takes the room that its stretch gives it.
+pub unfolded-next : {card words old new s : List ℕ} {A i j at next : ℕ} → Unfolded card words A i j s old at new next
+    → next ≡ at + planRoom (j - i)
+unfolded-next {card} {words} u =
+    omega (
+      arith,
+      plan-length (grammarOf card) (Holds (wordIs words)) (card-one-sided card) (u .yields),
+      plan-bytes (u .steps),
+      u .wrote .ends,
+    )
+
+pub lone : {card words old new s : List ℕ} {A i j at next : ℕ} {st : PlanStep}
+    → Yields (grammarOf card) (Holds (wordIs words)) (nonterminal A s ∷ []) i j (st ∷ []) → Wrote old at (stepBytes st) new next
+    → Unfolded card words A i j s old at new next
+lone {st = st} y w = record { steps = st ∷ []; yields = y; wrote = rw (append-nil (stepBytes st)) w }
+
+-- A part's plan is one for its name and its stretch.
+part-yields : {card words chart : List ℕ} {count x A i j : ℕ} {s pending : List ℕ} {steps : List PlanStep}
+    → Part card words chart count x A i j s pending
+    → Yields (grammarOf card) (Holds (wordIs words)) (nonterminal (nameAt chart x) s ∷ []) (fromAt chart x) (toAt chart x) steps
+    → Yields (grammarOf card) (Holds (wordIs words)) (nonterminal A s ∷ []) i j steps
+part-yields f y = rw (f .name, f .from, f .to) at y
+
+-- The room for a step, since a record has some word.
+pub step-room : {card chart pending plan : List ℕ} {m at : ℕ} → Asked card chart m pending plan at → at + 4 ≤ length plan
+step-room a = omega (arith, depth-below (a .ready), a .room)
+
+module _ {card words chart : List ℕ} {count p A i j x y : ℕ} {s s₁ p₁ s₂ p₂ : List ℕ}
+    (parts : Parts card words chart count p A i j s x s₁ p₁ y s₂ p₂) where
+  pub first-shorter : spanAt chart x < j - i
+  first-shorter = let f = parts .first in let g = parts .second in omega arith
+
+  pub second-shorter : spanAt chart y < j - i
+  second-shorter = let f = parts .first in let g = parts .second in omega arith
+
+  pub meeting : toAt chart x ≡ fromAt chart y
+  meeting = parts .first .to ∙ sym (parts .second .from)
+
+  -- After the step the first part has its room, and after the first part the second has.
+  module _ {old mid : List ℕ} {at rest p′ i′ k′ j′ : ℕ} (short : j - i ≤ 24) (room : at + planRoom (j - i) ≤ length old)
+      (w : Wrote old at (stepBytes (planStep p′ i′ k′ j′)) mid rest) where
+    pub first-asked : Asked card chart x p₁ mid rest
+    first-asked = let f = parts .first in let g = parts .second in
+        record {
+          words = words;
+          count = count;
+          stack = s₁;
+          ready = parts .first .ready;
+          short = omega (arith, first-shorter);
+          room = omega (arith, w .ends, wrote-length w);
+        }
+
+    pub second-asked : {more : List ℕ} {next : ℕ}
+        → Unfolded card words (nameAt chart x) (fromAt chart x) (toAt chart x) s₁ mid rest more next → Asked card chart y p₂ more next
+    second-asked u = let f = parts .first in let g = parts .second in
+        record {
+          words = words;
+          count = count;
+          stack = s₂;
+          ready = parts .second .ready;
+          short = omega (arith, second-shorter);
+          room = omega (arith, w .ends, wrote-length w, wrote-length (u .wrote), unfolded-next u);
+        }
+
+  -- The step and the two plans are the record's plan.
+  pub joined : {old mid more new : List ℕ} {at rest next last p′ i′ k′ j′ : ℕ} → planStep p′ i′ k′ j′ ≡ planStep p i (toAt chart x) j
+      → Wrote old at (stepBytes (planStep p′ i′ k′ j′)) mid rest
+      → Unfolded card words (nameAt chart x) (fromAt chart x) (toAt chart x) s₁ mid rest more next
+      → Unfolded card words (nameAt chart y) (fromAt chart y) (toAt chart y) s₂ more next new last
+      → Unfolded card words A i j s old at new last
+  joined {p′ = p′} {i′ = i′} {k′ = k′} {j′ = j′} e w u v =
+      let same : planStep p i (parts .split) j ≡ planStep p′ i′ k′ j′ = sym (e ∙ ap (λ (k : ℕ). planStep p i k j) (parts .first .to)) in
+      record {
+        steps = planStep p′ i′ k′ j′ ∷ (u .steps ++ v .steps);
+        yields = subst
+            (λ (st : PlanStep). Yields (grammarOf card) (Holds (wordIs words)) (nonterminal A s ∷ []) i j (st ∷ (u .steps ++ v .steps)))
+            same (step-yields (parts .replaced) (part-yields (parts .first) (u .yields)) (part-yields (parts .second) (v .yields)));
+        wrote = rw (plan-join (u .steps) (v .steps)) (wrote-then w (wrote-then (u .wrote) (v .wrote)));
+      }
+
+-- The step as it is written has the record's production and stretch, and the first part's end.
+pub first-step : {chart : List ℕ} {m : ℕ} {st first : Step} → StepOf chart m st → StepOf chart (st .side) first
+    → planStep (st .production) (st .from) (first .to) (st .to)
+    ≡ planStep (byteAt chart (16 * m + 7)) (fromAt chart m) (toAt chart (st .side)) (toAt chart m)
+first-step read r = cc
+
+pub last-step : {chart : List ℕ} {m k : ℕ} {st last : Step} → StepOf chart m st → StepOf chart (st .side) last
+    → k ≡ fromAt chart (st .side)
+    → planStep (st .production) (st .from) (last .from) (st .to)
+    ≡ planStep (byteAt chart (16 * m + 7)) (fromAt chart m) k (toAt chart m)
+last-step read r e = cc

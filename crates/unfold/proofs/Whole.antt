@@ -1,0 +1,49 @@
+-- The item of the start has no foot, so nothing is pending under it: it is unfolded as a side is, at the room's start. Its plan takes
+-- nonterminal 0 with an empty stack to all n words, and that is a leftmost derivation of them.
+use Prim.Native.Nat.{ℕ, _*_, _<_}
+use native.Mathlib.Omega.{arith}
+use mathlib.Core.Path.{_≡_, sym, _∙_, ap, subst}
+use mathlib.Core.List.{List, [], _++_}
+use lib.ListN.{length, drop}
+use Rattle.grammar.specs.Items.{Foot, bare}
+use Rattle.grammar.specs.ItemList.{item}
+use Rattle.grammar.specs.Chart.{itemOf}
+use Rattle.grammar.proofs.Unfolding.{Pends, settled}
+use Rattle.layout.specs.Records.{recordAt, chartIn}
+use Rattle.layout.specs.Steps.{planBytes}
+use Rattle.unfold.specs.Unfold.{Held, Unfoldable, Planned}
+use Rattle.unfold.specs.Spine.{nameAt, fromAt, toAt, Ready, Asked, Unfolded}
+use Rattle.unfold.proofs.Starting.{start-name, start-from, start-to, start-foot}
+use Rattle.unfold.proofs.Writing.{plan-bytes}
+
+pub start-ready : {card words chart : List ℕ} {count m n : ℕ} → Held card words chart count → m < count
+    → itemOf (recordAt chart m) ≡ item 0 0 n bare → Ready card words chart count m [] []
+start-ready {chart = chart} {count = count} {m = m} {n = n} held inside e =
+    record {
+      held = held;
+      inside = inside;
+      pends = subst (λ (φ : Foot). Pends (chartIn chart count) φ [] []) (sym (start-foot chart m n e)) settled;
+    }
+
+pub start-asked : {card chart plan : List ℕ} {count m n : ℕ} → Unfoldable card chart count m n plan → Asked card chart m [] plan 0
+start-asked {chart = chart} {count = count} {m = m} {n = n} u =
+    let from = start-from chart m n (u .whole) in
+    let to = start-to chart m n (u .whole) in
+    record {
+      words = u .words;
+      count = count;
+      stack = [];
+      ready = start-ready (u .held) (u .inside) (u .whole);
+      short = omega (arith, u .short);
+      room = omega (arith, u .room);
+    }
+
+pub start-planned : (chart : List ℕ) (m : ℕ) {card words old new : List ℕ} {n next : ℕ} → itemOf (recordAt chart m) ≡ item 0 0 n bare
+    → Unfolded card words (nameAt chart m) (fromAt chart m) (toAt chart m) [] old 0 new next → Planned card words n old new
+start-planned chart m {old = old} {n = n} {next = next} e u =
+    let size : next ≡ 4 * length (u .steps) = omega (arith, u .wrote .ends, plan-bytes (u .steps)) in
+    record {
+      steps = u .steps;
+      derives = rw (start-name chart m n e, start-from chart m n e, start-to chart m n e) at (u .yields);
+      written = u .wrote .written ∙ ap (λ (k : ℕ). planBytes (u .steps) ++ drop k old) size;
+    }

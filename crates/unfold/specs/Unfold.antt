@@ -1,0 +1,44 @@
+-- Document 01, "The plan": what unfolding promises. The room's records are those of a chart, whatever chart it is.
+use Prim.Native.Nat.{ℕ, _+_, _*_, _≤_, _<_}
+use mathlib.Core.Path.{_≡_}
+use mathlib.Core.List.{List, _++_}
+use lib.ListN.{length, take, drop}
+use Rattle.grammar.specs.Lists.{Stands}
+use Rattle.grammar.specs.Rewriting.{nonterminal, Rule}
+use Rattle.grammar.specs.Input.{Holds, wordIs}
+use Rattle.grammar.specs.Items.{Foot, bare}
+use Rattle.grammar.specs.ItemList.{item}
+use Rattle.grammar.specs.Chart.{Record, Justified, itemOf}
+use Rattle.grammar.specs.Plan.{PlanStep, Yields, LeftmostDerivation}
+use Rattle.layout.specs.Card.{grammarOf}
+use Rattle.layout.specs.Records.{recordAt, chartIn}
+use Rattle.layout.specs.Steps.{planBytes, planRoom}
+use Rattle.unfold.specs.declared.Start.{Start}
+use Rattle.unfold.specs.declared.Start.the-variants.{At, Missing}
+
+-- Each of the first count records of the room is justified, for some words.
+pub record Held (card words chart : List ℕ) (count : ℕ) : Type 0 where
+  pub there : 16 * count ≤ length chart
+  pub few : count ≤ 65535
+  pub justified : (m : ℕ) (e : Record) → Stands (chartIn chart count) m e
+      → Justified (grammarOf card) (Holds (wordIs words)) (chartIn chart count) m e
+
+-- What unfolding asks: such a room, with the item of the start over n words at position m, and room for its plan.
+pub record Unfoldable (card chart : List ℕ) (count m n : ℕ) (plan : List ℕ) : Type 0 where
+  pub words : List ℕ
+  pub held : Held card words chart count
+  pub inside : m < count
+  pub whole : itemOf (recordAt chart m) ≡ item 0 0 n bare
+  pub room : planRoom n ≤ length plan
+  pub short : n ≤ 24
+
+-- The plan room got a leftmost derivation of n words, and has what it had past it.
+pub record Planned (card words : List ℕ) (n : ℕ) (old new : List ℕ) : Type 0 where
+  pub steps : List PlanStep
+  pub derives : LeftmostDerivation (grammarOf card) (Holds (wordIs words)) n steps
+  pub written : new ≡ planBytes steps ++ drop (4 * length steps) old
+
+-- Where the item of the start over all n words stands, if it does.
+abbrev pub Found : List ℕ → ℕ → ℕ → Start → Type 0
+Found chart count n (At m) = (m < count) × (itemOf (recordAt chart m) ≡ item 0 0 n bare)
+Found chart count n Missing = (m : ℕ) → m < count → itemOf (recordAt chart m) ≡ item 0 0 n bare → ⊥
