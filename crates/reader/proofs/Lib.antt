@@ -1,0 +1,7 @@
+pub mod Accepting
+pub mod Feet
+pub mod ReadBack
+pub mod Starts
+pub mod Answers
+pub mod Ends
+pub mod Planning

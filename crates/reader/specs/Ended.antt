@@ -1,0 +1,40 @@
+-- The two ways in which Read ends: with a refusal, or with a chart in its room. What planning asks of such a room, and what it answers:
+-- the plan of the item of the start over all words where the chart has it, and an untouched room where it has not.
+use Prim.Native.Nat.{ℕ, _≤_}
+use mathlib.Core.Path.{_≡_}
+use mathlib.Core.Bool.{Bool, true, false}
+use mathlib.Core.List.{List}
+use lib.ListN.{length}
+use Rattle.layout.specs.Steps.{planRoom}
+use Rattle.layout.specs.Answers.{refusal, found}
+use Rattle.unfold.specs.Unfold.{Held, Planned, Found}
+use Rattle.unfold.specs.declared.Start.{Start}
+use Rattle.unfold.specs.declared.Start.the-variants.{At, Missing}
+use Rattle.reader.specs.Read.{answerFrom}
+use Rattle.reader.specs.declared.read.Answer.{Answer}
+
+abbrev pub Refuses : ℕ → Answer → Type 0
+Refuses number r = answerFrom r ≡ refusal number
+
+-- The first count records of the room are justified for some words, and a plan of n words has room.
+pub record Charted (card chart : List ℕ) (n count : ℕ) (plan : List ℕ) : Type 0 where
+  pub words : List ℕ
+  pub held : Held card words chart count
+  pub some-words : 1 ≤ n
+  pub short : n ≤ 24
+  pub room : planRoom n ≤ length plan
+
+abbrev pub isThere : Start → Bool
+isThere (At m) = true
+isThere Missing = false
+
+abbrev pub RoomAfter : List ℕ → List ℕ → ℕ → Start → List ℕ → List ℕ → Type 0
+RoomAfter card words n (At m) old new = Planned card words n old new
+RoomAfter card words n Missing old new = new ≡ old
+
+-- Whatever words the records are justified for, the plan is one of them.
+pub record PlanOf (card chart : List ℕ) (n count : ℕ) (old new : List ℕ) (r : Answer) : Type 0 where
+  pub start : Start
+  pub searched : Found chart count n start
+  pub answer : answerFrom r ≡ found (isThere start) n count
+  pub plan : (words : List ℕ) → Held card words chart count → RoomAfter card words n start old new
