@@ -69,7 +69,7 @@ impl Card {
     }
 
     // Where entry v starts.
-    fn entry_at(v: usize) -> usize
+    pub fn entry_at(v: usize) -> usize
         requires { ⌜ v < 256 ⌝ }
         ensures { λ r. ⌜ r ≡ entryAt v ⌝ }
     {

@@ -12,7 +12,7 @@ use Rattle.grammar.specs.Items.{Foot, bare, foot, Derived, wordStep, tak
 use Rattle.grammar.specs.ItemList.{Item, item}
 use Rattle.grammar.specs.Plan.{PlanStep, planStep, firstOf, othersOf, Yields, nothing, reads, replaces, LeftmostDerivation}
 use Rattle.grammar.specs.Chart.{Record, recorded, itemOf, Earlier, earlier, Results, taken, kept, given}
-use Rattle.grammar.specs.Chart.{Justified, byWord, sideFirst, sideLast, onward, productionOf, unfoldRule, unfolds}
+use Rattle.grammar.specs.Chart.{Justified, byWord, sideFirst, sideLast, onward, Pends, settled, awaits, productionOf, unfoldRule, unfolds}
 use Rattle.grammar.proofs.StandsLaws.{stands-getElem}
 
 -- The parts of an item.
@@ -27,13 +27,6 @@ endOf (item A i j φ) = j
 
 abbrev footOf : Item → Foot
 footOf (item A i j φ) = φ
-
--- `Pends c φ s pending`: under the foot φ the stack s is still to be taken, and at the positions `pending` stand the records that
--- the takes go on with, top first.
-pub data Pends (c : List Record) : Foot → List ℕ → List ℕ → Type 0 where
-  settled : Pends c bare [] []
-  awaits : {γ B p q x r y z u : ℕ} {φ : Foot} {s pending : List ℕ} → Stands c x (recorded (item B p q φ) r y z u)
-      → Pends c φ s pending → Pends c (foot γ B p q) (γ ∷ s) (x ∷ pending)
 
 -- `Goes c A i j x s pending`: at position x stands a record of A over i to j, and pending records fit its foot and the stack s.
 data Goes (c : List Record) (A i j x : ℕ) (s pending : List ℕ) : Type 0 where

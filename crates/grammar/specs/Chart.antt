@@ -61,6 +61,13 @@ onward (Take γ) dependent continuation (x ∷ pending) = record { position = x;
 onward Keep dependent continuation pending = record { position = dependent; pending = pending }
 onward (Give γ) dependent continuation pending = record { position = dependent; pending = continuation ∷ pending }
 
+-- `Pends c φ s pending`: under the foot φ the stack s is still to be taken, and at the positions `pending` stand the records that
+-- the takes go on with, top first.
+pub data Pends (c : List Record) : Foot → List ℕ → List ℕ → Type 0 where
+  settled : Pends c bare [] []
+  awaits : {γ B p q x r y z u : ℕ} {φ : Foot} {s pending : List ℕ} → Stands c x (recorded (item B p q φ) r y z u)
+      → Pends c φ s pending → Pends c (foot γ B p q) (γ ∷ s) (x ∷ pending)
+
 -- The stretch of the item at a position.
 abbrev pub fromOf : Option Record → ℕ
 fromOf none = 0

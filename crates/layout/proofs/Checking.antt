@@ -19,9 +19,9 @@ use Rattle.layout.specs.Bytes.{check}
 use Rattle.layout.specs.Card.{grammarOf}
 use Rattle.layout.specs.Line.{numbersOf}
 use Rattle.layout.specs.Steps.{planBytes, stepsOf, andStep, planSteps}
-use Rattle.layout.specs.Answers.{inputNumber, wordsIn, lineTest, planPasses, checkNumber}
+use Rattle.layout.specs.Answers.{inputNumber, wordsIn, lineTest, HasDerivation, planPasses, checkNumber}
 use Rattle.layout.proofs.CardLaws.{card-one-sided}
-use Rattle.layout.proofs.Reading.{HasDerivation, count-numbers}
+use Rattle.layout.proofs.Reading.{count-numbers}
 
 -- The steps are a leftmost derivation of the line under the card.
 abbrev pub Derives : List ℕ → List ℕ → List PlanStep → Type 0

@@ -20,16 +20,7 @@ use Rattle.layout.specs.Card.{grammarOf, markFits, countsFit, lengthsFit
 use Rattle.layout.specs.Line.{wordsOf, numbersOf, numberOfWord, orZero, isLineByte, mostWords, allKnown, lineNumber}
 use Rattle.layout.specs.Records.{capacity}
 use Rattle.layout.specs.Steps.{planRoom, planSteps}
-use Rattle.layout.specs.Answers.{inputNumber, wordsIn, lineTest, derivable, ReadAnswer, refusal, found, chartAnswer, readAnswer}
-
--- Room enough: the condition of neither 31 nor 32 holds.
-pub record RoomEnough (card line : List ℕ) (chartRoom room : ℕ) : Type 0 where
-  pub planFits : planRoom (wordsIn line) ≤ room
-  pub chartFits : length (derivable card line) ≤ capacity chartRoom
-
--- The line has a derivation under the card.
-abbrev pub HasDerivation : List ℕ → List ℕ → Type 0
-HasDerivation card line = Derivation (grammarOf card) (numbersOf card line)
+use Rattle.layout.specs.Answers.{inputNumber, wordsIn, lineTest, derivable, ReadAnswer, refusal, found, chartAnswer, readAnswer, RoomEnough, HasDerivation}
 
 pub count-numbers : (card line : List ℕ) → length (numbersOf card line) ≡ wordsIn line
 count-numbers card line = length-map (wordsOf line) (λ word. orZero (numberOfWord card word))

@@ -1,13 +1,14 @@
 -- Document 01, "Refusals by who can cause them" and the answers of the five calls: each a function of the inputs alone, the order of
 -- refusals in one place, and what every lent room holds afterwards. Free, and named so: which chart, in what order of its items and
 -- with which recorded steps; and which leftmost derivation the plan room gets.
-use Prim.Native.Nat.{ℕ, zero, suc, _+_, _*_, _^_}
+use Prim.Native.Nat.{ℕ, zero, suc, _+_, _*_, _^_, _≤_}
 use mathlib.Core.Path.{_≡_}
 use mathlib.Core.Bool.{Bool, true, false, cond, _||_}
 use mathlib.Core.List.{List, [], _∷_, _++_}
 use mathlib.Core.Option.{Option, none, some}
 use lib.Dec.{eqb, leb, ltb}
 use lib.ListN.{length, drop, replicate}
+use Rattle.grammar.specs.Rewriting.{Derivation}
 use Rattle.grammar.specs.Input.{Holds, wordIs}
 use Rattle.grammar.specs.Items.{bare}
 use Rattle.grammar.specs.ItemList.{Item, item, items, among}
@@ -60,6 +61,15 @@ readAnswer card line chartRoom room =
     (cond (ltb room (planRoom (wordsIn line))) (refusal 32)
     (chartAnswer (wordsIn line) chartRoom (derivable card line)))
     (refusal (inputNumber card line))
+
+-- Room enough: the condition of neither 31 nor 32 holds.
+pub record RoomEnough (card line : List ℕ) (chartRoom room : ℕ) : Type 0 where
+  pub planFits : planRoom (wordsIn line) ≤ room
+  pub chartFits : length (derivable card line) ≤ capacity chartRoom
+
+-- The line has a derivation under the card.
+abbrev pub HasDerivation : List ℕ → List ℕ → Type 0
+HasDerivation card line = Derivation (grammarOf card) (numbersOf card line)
 
 -- The chart room after Read: the whole chart with 0 and 25, zeros with 31, and untouched with any other number.
 pub data ChartState : Type 0 where

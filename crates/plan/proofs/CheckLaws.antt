@@ -25,7 +25,7 @@ use Rattle.plan.specs.Goals.{goalsStart, replayFrom}
 use Rattle.plan.specs.Paired.{Pairs}
 use Rattle.plan.specs.declared.Paired.{Paired}
 use Rattle.plan.proofs.GoalsTest.{goals-pass}
-use Rattle.plan.proofs.Passed.{input-words}
+use Rattle.layout.proofs.Packing.{input-words}
 
 module _ (card line : List ℕ) (r : Accepted) (x : Accepts card line r) where
   refused : (r .number ≡ 0 → ⊥) → eqb (inputNumber card line) 0 ≡ false

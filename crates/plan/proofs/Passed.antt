@@ -23,6 +23,7 @@ use Rattle.layout.specs.Steps.{planBytes, stepsOf, andStep}
 use Rattle.layout.specs.Answers.{inputNumber, wordsIn, lineTest, checkNumber, planPairs}
 use Rattle.layout.proofs.CardLaws.{card-one-sided}
 use Rattle.layout.proofs.Checking.{Derives, check-sound, steps-bytes}
+use Rattle.layout.proofs.Packing.{input-words}
 use Rattle.plan.specs.Goals.{goalsStart}
 use Rattle.plan.specs.Shown.{stepFrom, StepAt}
 use Rattle.plan.specs.declared.replay.Step.{Step}
@@ -30,24 +31,6 @@ use Rattle.plan.proofs.GoalsTest.{goals-complete}
 use Rattle.plan.proofs.GoalsTiled.{tiled-start}
 use Rattle.plan.proofs.ReplayLaws.{steps-from}
 use Rattle.plan.proofs.Paced.{Paced, pacedNone, paced, run-paced}
-
--- An accepted line has 1 to 24 words.
-passed-test : (b : Bool) (x y : ℕ) → (x ≡ 0 → ⊥) → check b x y ≡ 0 → (b ≡ true) × (y ≡ 0)
-passed-test true x y n e = (refl, e)
-passed-test false x y n e = absurd (n e)
-
-pub input-words : (card line : List ℕ) → inputNumber card line ≡ 0 → (1 ≤ wordsIn line) × (wordsIn line ≤ 24)
-input-words card line e =
-    let (e₁, d₁) = go (eqb (cardNumber card) 0) refl e in
-    let (e₂, d₂) = passed-test (allBytes isLineByte line) 22 _ (omega arith) d₁ in
-    let (e₃, d₃) = passed-test (leb 1 (wordsIn line)) 21 _ (omega arith) d₂ in
-    let (e₄, d₄) = passed-test (leb (wordsIn line) 24) 23 _ (omega arith) d₃ in
-    (leb-true 1 (wordsIn line) e₃, leb-true (wordsIn line) 24 e₄)
-  where
-    go : (b : Bool) → eqb (cardNumber card) 0 ≡ b → check b (cardNumber card) (lineNumber card line) ≡ 0
-        → (b ≡ true) × (lineNumber card line ≡ 0)
-    go true d e = (refl, e)
-    go false d e = absurd (false≢true (sym d ∙ eq-eqb (cardNumber card) 0 e))
 
 -- The steps of a plan's bytes.
 abbrev stepsElse : Option (List PlanStep) → List PlanStep

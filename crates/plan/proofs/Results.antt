@@ -12,8 +12,7 @@ use Rattle.grammar.specs.Plan.{PlanStep}
 use Rattle.grammar.proofs.PairsLaws.{giveSteps, takeSteps, gives-count, takes-gives}
 use Rattle.layout.specs.Card.{grammarOf}
 use Rattle.layout.specs.Steps.{planBytes, stepsOf, planSteps, planRoom}
-use Rattle.layout.specs.Answers.{wordsIn, checkNumber, planPairs}
-use Rattle.layout.proofs.Reading.{HasDerivation}
+use Rattle.layout.specs.Answers.{wordsIn, checkNumber, planPairs, HasDerivation}
 use Rattle.layout.proofs.Checking.{Derives, check-sound, steps-bytes, derives-length, derives-derivation}
 use Rattle.plan.specs.Goals.{Goal, Standing, stuck, standing, next, goalsStart, Tiled}
 use Rattle.plan.specs.Shown.{indicesOf}

@@ -4,8 +4,7 @@ use mathlib.Core.Path.{_≡_}
 use mathlib.Core.List.{List}
 use lib.Dec.{eqb}
 use lib.ListN.{length}
-use Rattle.layout.specs.Answers.{inputNumber, ReadAnswer, readAnswer, chartState, ChartAfter, PlanAfter}
-use Rattle.layout.proofs.Reading.{RoomEnough, HasDerivation}
+use Rattle.layout.specs.Answers.{inputNumber, ReadAnswer, readAnswer, RoomEnough, HasDerivation, chartState, ChartAfter, PlanAfter}
 use Rattle.reader.specs.declared.read.Answer.{Answer}
 
 -- The code's answer as the definitions have it.

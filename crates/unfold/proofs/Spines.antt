@@ -10,8 +10,8 @@ use Rattle.grammar.specs.Rewriting.{Lexical, Spine, Action, nonterminal}
 use Rattle.grammar.specs.Input.{Holds, wordIs}
 use Rattle.grammar.specs.Items.{Foot}
 use Rattle.grammar.specs.Plan.{PlanStep, planStep, Yields}
-use Rattle.grammar.specs.Chart.{Record, onward}
-use Rattle.grammar.proofs.Unfolding.{Pends, settled, awaits, unfolds-yields}
+use Rattle.grammar.specs.Chart.{Record, onward, Pends, settled, awaits}
+use Rattle.grammar.proofs.Unfolding.{unfolds-yields}
 use Rattle.grammar.proofs.PlanSize.{plan-length, stack-depth}
 use Rattle.layout.specs.Bytes.{byteAt, wordAt}
 use Rattle.layout.specs.Card.{production, grammarOf}

@@ -10,8 +10,8 @@ use Rattle.grammar.specs.Items.{Foot}
 use Rattle.grammar.specs.ItemList.{Item, item}
 use Rattle.grammar.specs.Plan.{PlanStep, planStep, firstOf, othersOf, Yields, nothing, reads, replaces}
 use Rattle.grammar.specs.Chart.{Record, recorded, itemOf, productionOf, onward, Earlier, earlier, Results, taken, kept, given}
-use Rattle.grammar.specs.Chart.{Justified, byWord, sideFirst, sideLast}
-use Rattle.grammar.proofs.Unfolding.{Pends, settled, awaits, justified-longer}
+use Rattle.grammar.specs.Chart.{Justified, byWord, sideFirst, sideLast, Pends, settled, awaits}
+use Rattle.grammar.proofs.Unfolding.{justified-longer}
 use Rattle.layout.specs.Bytes.{byteAt, wordAt}
 use Rattle.layout.specs.Card.{production, grammarOf}
 use Rattle.layout.specs.Records.{recordAt, chartIn}

@@ -7,8 +7,7 @@ use mathlib.Core.List.{List, [], _++_}
 use lib.ListN.{length, drop}
 use Rattle.grammar.specs.Items.{Foot, bare}
 use Rattle.grammar.specs.ItemList.{item}
-use Rattle.grammar.specs.Chart.{itemOf}
-use Rattle.grammar.proofs.Unfolding.{Pends, settled}
+use Rattle.grammar.specs.Chart.{itemOf, Pends, settled}
 use Rattle.layout.specs.Records.{recordAt, chartIn}
 use Rattle.layout.specs.Steps.{planBytes}
 use Rattle.unfold.specs.Unfold.{Held, Unfoldable, Planned}

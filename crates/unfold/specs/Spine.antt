@@ -8,9 +8,8 @@ use Rattle.grammar.specs.Rewriting.{nonterminal}
 use Rattle.grammar.specs.Input.{Holds, wordIs}
 use Rattle.grammar.specs.Items.{bare}
 use Rattle.grammar.specs.ItemList.{item}
-use Rattle.grammar.specs.Chart.{itemOf, onward}
+use Rattle.grammar.specs.Chart.{itemOf, onward, Pends}
 use Rattle.grammar.specs.Plan.{PlanStep, Yields}
-use Rattle.grammar.proofs.Unfolding.{Pends}
 use Rattle.layout.specs.Bytes.{byteAt, wordAt}
 use Rattle.layout.specs.Card.{grammarOf}
 use Rattle.layout.specs.Records.{recordAt, footThere, chartIn}

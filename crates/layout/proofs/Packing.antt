@@ -1,0 +1,138 @@
+-- Each part of a call's answer fits 16 bits, so that `pack` loses nothing: numbers are at most 35, words 24, items 65535, steps 47,
+-- and a plan that passes has no more pairs than steps.
+use Prim.Native.Nat.{ℕ, _+_, _*_, _-_, _/_, _≤_, _<_}
+use native.Mathlib.Omega.{arith}
+use mathlib.Core.Path.{_≡_, refl, sym, _∙_, ap, subst}
+use mathlib.Core.Bool.{Bool, true, false, cond, false≢true}
+use mathlib.Core.List.{List, [], _∷_}
+use mathlib.Core.Option.{Option, none, some}
+use lib.Dec.{eqb, leb, ltb}
+use lib.ListN.{length, getElem?}
+use borrow.Author.Tests.{eqb-true, eq-eqb, leb-true, ltb-false}
+use Rattle.grammar.specs.Rewriting.{Rule, Lexical, Spine, Take, Keep, Give}
+use Rattle.grammar.specs.ItemList.{item, among}
+use Rattle.grammar.specs.Items.{bare}
+use Rattle.grammar.specs.Plan.{PlanStep, planStep}
+use Rattle.grammar.specs.Pairs.{Pair, pairsOf}
+use Rattle.grammar.proofs.PairsLaws.{oneGive, countRule, giveSteps, gives-count}
+use Rattle.layout.specs.Bytes.{check, allBytes}
+use Rattle.layout.specs.Card.{grammarOf, markFits, countsFit, lengthsFit, entriesFit, entriesDiffer, productionsFit, cardNumber}
+use Rattle.layout.specs.Line.{wordsOf, isLineByte, mostWords, allKnown, lineNumber}
+use Rattle.layout.specs.Records.{capacity}
+use Rattle.layout.specs.Steps.{planRoom, planSteps, stepsOf}
+use Rattle.layout.specs.Answers.{inputNumber, wordsIn, derivable, ReadAnswer, refusal, found, readAnswer}
+use Rattle.layout.specs.Answers.{planPasses, checkNumber, planPairs, PairsAnswer, pairsWithin, pairsAnswer}
+use Rattle.layout.proofs.Checking.{check-sound, derives-length, steps-bytes}
+
+-- An accepted line has 1 to 24 words.
+passed-test : (b : Bool) (x y : ℕ) → (x ≡ 0 → ⊥) → check b x y ≡ 0 → (b ≡ true) × (y ≡ 0)
+passed-test true x y n e = (refl, e)
+passed-test false x y n e = absurd (n e)
+
+pub input-words : (card line : List ℕ) → inputNumber card line ≡ 0 → (1 ≤ wordsIn line) × (wordsIn line ≤ 24)
+input-words card line e =
+    let (e₁, d₁) = go (eqb (cardNumber card) 0) refl e in
+    let (e₂, d₂) = passed-test (allBytes isLineByte line) 22 _ (omega arith) d₁ in
+    let (e₃, d₃) = passed-test (leb 1 (wordsIn line)) 21 _ (omega arith) d₂ in
+    let (e₄, d₄) = passed-test (leb (wordsIn line) 24) 23 _ (omega arith) d₃ in
+    (leb-true 1 (wordsIn line) e₃, leb-true (wordsIn line) 24 e₄)
+  where
+    go : (b : Bool) → eqb (cardNumber card) 0 ≡ b → check b (cardNumber card) (lineNumber card line) ≡ 0
+        → (b ≡ true) × (lineNumber card line ≡ 0)
+    go true d e = (refl, e)
+    go false d e = absurd (false≢true (sym d ∙ eq-eqb (cardNumber card) 0 e))
+
+-- Refusals are at most 35.
+at-most : (b : Bool) (x y m : ℕ) → x ≤ m → y ≤ m → check b x y ≤ m
+at-most true x y m h k = k
+at-most false x y m h k = h
+
+card-small : (card : List ℕ) → cardNumber card ≤ 24
+card-small card =
+    at-most (markFits card) 11 _ 24 (omega arith)
+    (at-most (countsFit card) 12 _ 24 (omega arith)
+    (at-most (lengthsFit card) 13 _ 24 (omega arith)
+    (at-most (entriesFit card) 14 _ 24 (omega arith)
+    (at-most (entriesDiffer card) 15 _ 24 (omega arith) (at-most (productionsFit card) 16 0 24 (omega arith) (omega arith))))))
+
+line-small : (card line : List ℕ) → lineNumber card line ≤ 24
+line-small card line =
+    let words = wordsOf line in
+    at-most (allBytes isLineByte line) 22 _ 24 (omega arith)
+    (at-most (leb 1 (length words)) 21 _ 24 (omega arith)
+    (at-most (leb (length words) mostWords) 23 _ 24 (omega arith) (at-most (allKnown card words) 24 0 24 (omega arith) (omega arith))))
+
+input-small : (card line : List ℕ) → inputNumber card line ≤ 24
+input-small card line = at-most (eqb (cardNumber card) 0) _ _ 24 (card-small card) (line-small card line)
+
+check-small : (card line plan : List ℕ) → checkNumber card line plan ≤ 35
+check-small card line plan =
+    at-most (eqb (inputNumber card line) 0) _ _ 35 (omega (arith, input-small card line))
+    (at-most (planPasses card line (stepsOf plan)) 34 0 35 (omega arith) (omega arith))
+
+-- Read.
+pub record ReadFits (r : ReadAnswer) : Type 0 where
+  pub number : r .number ≤ 35
+  pub words : r .words ≤ 24
+  pub items : r .items ≤ 65535
+  pub steps : r .steps ≤ 47
+
+refusal-fits : (x : ℕ) → x ≤ 35 → ReadFits (refusal x)
+refusal-fits x h = record { number = h; words = omega arith; items = omega arith; steps = omega arith }
+
+found-fits : (f : Bool) (n count : ℕ) → n ≤ 24 → count ≤ 65535 → ReadFits (found f n count)
+found-fits true n count h k = record { number = omega arith; words = h; items = k; steps = omega arith }
+found-fits false n count h k = record { number = omega arith; words = h; items = k; steps = omega arith }
+
+answer-fits : (b r o f : Bool) (x n count : ℕ) → x ≤ 35 → (b ≡ true → n ≤ 24) → (o ≡ false → count ≤ 65535)
+    → ReadFits (cond b (cond r (refusal 32) (cond o (refusal 31) (found f n count))) (refusal x))
+answer-fits false r o f x n count h k l = refusal-fits x h
+answer-fits true true o f x n count h k l = refusal-fits 32 (omega arith)
+answer-fits true false true f x n count h k l = refusal-fits 31 (omega arith)
+answer-fits true false false f x n count h k l = found-fits f n count (k refl) (l refl)
+
+pub read-fits : (card line : List ℕ) (chartRoom room : ℕ) → ReadFits (readAnswer card line chartRoom room)
+read-fits card line chartRoom room =
+    let x = inputNumber card line in
+    let n = wordsIn line in
+    let all = derivable card line in
+    answer-fits (eqb x 0) (ltb room (planRoom n)) (ltb (capacity chartRoom) (length all)) (among (item 0 0 n bare) all) x n (length all)
+    (omega (arith, input-small card line)) (λ e. input-words card line (eqb-true x 0 e) .1)
+    (λ e. omega (arith, ltb-false (capacity chartRoom) (length all) e))
+
+-- Pairs.
+rule-gives : (r : Option Rule) → countRule oneGive r ≤ 1
+rule-gives none = omega arith
+rule-gives (some (Lexical A w)) = omega arith
+rule-gives (some (Spine A (Take γ) before D after)) = omega arith
+rule-gives (some (Spine A Keep before D after)) = omega arith
+rule-gives (some (Spine A (Give γ) before D after)) = omega arith
+
+gives-few : (g : List Rule) (plan : List PlanStep) → giveSteps g plan ≤ length plan
+gives-few g [] = omega arith
+gives-few g (planStep p i k j ∷ plan) = omega (arith, rule-gives (getElem? g p), gives-few g plan)
+
+pairs-few : (card line bytes : List ℕ) → checkNumber card line bytes ≡ 0 → length (planPairs card (stepsOf bytes)) ≤ 47
+pairs-few card line bytes e =
+    let (e₁, plan, e₂, d) = check-sound card line bytes e in
+    let (h₁, h₂) = input-words card line e₁ in
+    rw (e₂, steps-bytes plan) (omega (arith, gives-count d, gives-few (grammarOf card) plan, derives-length card line d))
+
+pub record PairsFit (r : PairsAnswer) : Type 0 where
+  pub number : r .number ≤ 35
+  pub count : length (r .pairs) ≤ 47
+
+within-fit : (short : Bool) (pairs : List Pair) → length pairs ≤ 47
+    → PairsFit (cond short (record { number = 33; pairs = [] }) (record { number = 0; pairs = pairs }))
+within-fit true pairs h = record { number = omega arith; count = omega arith }
+within-fit false pairs h = record { number = omega arith; count = h }
+
+pub pairs-fit : (card line plan : List ℕ) (room : ℕ) → PairsFit (pairsAnswer card line plan room)
+pairs-fit card line plan room = go (eqb (checkNumber card line plan) 0) refl
+  where
+    go : (b : Bool) → eqb (checkNumber card line plan) 0 ≡ b
+        → PairsFit (cond b (pairsWithin (planPairs card (stepsOf plan)) room) (record { number = checkNumber card line plan; pairs = [] }))
+    go true e =
+        let pairs = planPairs card (stepsOf plan) in
+        within-fit (ltb room (2 * length pairs)) pairs (pairs-few card line plan (eqb-true (checkNumber card line plan) 0 e))
+    go false e = record { number = check-small card line plan; count = omega arith }

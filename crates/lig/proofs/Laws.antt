@@ -1,0 +1,55 @@
+-- A packed answer says what the calls below it say: each part fits 16 bits, so the number is read back from the lowest ones.
+use Prim.Native.Nat.{ℕ, _+_, _*_, _%_, _^_, _≤_, _<_}
+use native.Mathlib.Omega.{arith}
+use mathlib.Core.Path.{_≡_, refl, sym, _∙_, ap, subst}
+use mathlib.Core.List.{List}
+use lib.Dec.{eqb}
+use borrow.Author.Tests.{eq-eqb, ne-eqb}
+use lib.ListN.{length}
+use Rattle.layout.specs.Card.{entryAt, spellingLength}
+use Rattle.layout.specs.Answers.{ReadAnswer, readAnswer, readPacked, pairsAnswer, pack, chartState, ChartAfter, PlanAfter}
+use Rattle.layout.specs.Answers.{nameNumber, nameAnswer, namePacked}
+use Rattle.layout.proofs.Packing.{ReadFits, read-fits, PairsFit, pairs-fit}
+use Rattle.reader.specs.Read.{answerFrom, Reads}
+use Rattle.reader.specs.declared.read.Answer.{Answer}
+use Rattle.plan.specs.Paired.{Pairs}
+use Rattle.plan.specs.declared.Paired.{Paired}
+use Rattle.lig.specs.Exports.{numberIn, ReadPacked, PairsPacked}
+
+pub number-packed : (a b c d : ℕ) → a < 65536 → numberIn (pack a b c d) ≡ a
+number-packed a b c d h = omega arith
+
+module _ (card line oldChart oldPlan newChart newPlan : List ℕ) (a : Answer)
+    (reads : Reads card line oldChart oldPlan newChart newPlan a) where
+  pub answer-fits : ReadFits (answerFrom a)
+  answer-fits = subst ReadFits (sym (reads .answer)) (read-fits card line (length oldChart) (length oldPlan))
+
+  pub read-packed : ReadPacked card line oldChart oldPlan newChart newPlan (pack (a .number) (a .words) (a .items) (a .steps))
+  read-packed =
+      let e : numberIn (pack (a .number) (a .words) (a .items) (a .steps)) ≡ a .number
+      = number-packed (a .number) (a .words) (a .items) (a .steps) (omega (arith, answer-fits .number)) in
+      record {
+        answer = ap readPacked (reads .answer);
+        chart = subst (λ (x : ℕ). ChartAfter card line (chartState x) oldChart newChart) (sym e) (reads .chart);
+        plan = subst (λ (x : ℕ). PlanAfter card line (eqb x 0) oldPlan newPlan) (sym e) (reads .plan);
+        read = λ z. reads .read (sym e ∙ z);
+        none = λ z. reads .none (sym e ∙ z);
+        whole = λ i m d. e ∙ reads .whole i m d;
+      }
+
+module _ (card line plan before after : List ℕ) (a : Paired) (paired : Pairs card line plan before after a) where
+  pub pairs-fit-code : (a .number ≤ 35) × (a .count ≤ 47)
+  pairs-fit-code =
+      let h = pairs-fit card line plan (length before) in
+      (subst (λ (x : ℕ). x ≤ 35) (sym (paired .number)) (h .number), subst (λ (x : ℕ). x ≤ 47) (sym (paired .count)) (h .count))
+
+  pub pairs-packed : PairsPacked card line plan before after (pack (a .number) (a .count) 0 0)
+  pairs-packed = record { answer = rw (paired .number, paired .count) refl; room = paired .room }
+
+module _ (card : List ℕ) (word : ℕ) where
+  pub name-refused : (number : ℕ) → number ≡ nameNumber card word → (number ≡ 0 → ⊥) → number ≡ namePacked (nameAnswer card word)
+  name-refused number e n = rw (ne-eqb (nameNumber card word) 0 λ z. n (e ∙ z)) (omega (arith, e))
+
+  pub name-known : {at size : ℕ} → nameNumber card word ≡ 0 → at ≡ entryAt word → size ≡ spellingLength card word
+      → pack 0 (at + 1) size 0 ≡ namePacked (nameAnswer card word)
+  name-known z e h = rw (eq-eqb (nameNumber card word) 0 z, e, h) refl
