@@ -17,7 +17,7 @@ use Rattle.card.specs.declared.Production.{Production}
 use Rattle.card.specs.declared.Production.the-variants.{Word}
 use Rattle.chart.specs.Tables.{rulesFrom, grammarIn}
 use Rattle.chart.specs.Built.{DecodedAll}
-use Rattle.chart.proofs.RoomLaws.{counted-last}
+use Rattle.records.proofs.RoomLaws.{counted-last}
 
 -- One zero more.
 zeros-last : (k : ℕ) → _≡_ {A = List ℕ} (replicate k 0 ++ (0 ∷ [])) (replicate (suc k) 0)

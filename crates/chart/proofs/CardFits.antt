@@ -19,9 +19,10 @@ use Rattle.card.proofs.Laws.{below-all}
 use Rattle.card.proofs.Accepted.{Accepted, accepted}
 use Rattle.card.specs.declared.Production.{Production}
 use Rattle.chart_model.proofs.Exact.{leftOf}
-use Rattle.chart.specs.Tables.{ActionFits, SymbolsFit, RuleFits, RulesFit, rulesFrom, grammarIn}
+use Rattle.steps.specs.Fits.{ActionFits, SymbolsFit, RuleFits}
+use Rattle.chart.specs.Tables.{RulesFit, rulesFrom, grammarIn}
 use Rattle.chart.specs.Built.{DecodedAll}
-use Rattle.chart.proofs.RoomLaws.{counted-at}
+use Rattle.records.proofs.RoomLaws.{counted-at}
 use Rattle.chart.proofs.CellLaws.{getElem-take}
 use Rattle.chart.proofs.BuiltLaws.{rules-count}
 

@@ -24,10 +24,11 @@ use Rattle.card.specs.Productions.{ruleFrom}
 use Rattle.card.specs.declared.Production.{Production}
 use Rattle.card.specs.declared.Production.the-variants.{Word}
 use Rattle.chart_model.specs.Build.{flatUp, places, barePlaces, byAction, byRule, byProduction, atSplit, byWordRule, byWord}
-use Rattle.chart.specs.Bits.{bitOf}
-use Rattle.chart.specs.Tables.{FirstAbsent, SecondAbsent, leftIs, rulesFrom, grammarIn, byOne, chosen, thisWord, isWordOf, spanAt, Indexed, Sorted, OwnSet}
-use Rattle.chart.proofs.StepLaws.{Looped, flatUp-add, flatUp-none}
-use Rattle.chart.proofs.BitLaws.{bitOf-below, bitOf-zero, bitOf-value, bitOf-and, halved-out}
+use Rattle.records.specs.Bits.{bitOf}
+use Rattle.records.specs.Index.{spanAt, Indexed}
+use Rattle.chart.specs.Tables.{FirstAbsent, SecondAbsent, leftIs, rulesFrom, grammarIn, byOne, chosen, thisWord, isWordOf, Sorted, OwnSet}
+use Rattle.steps.proofs.StepLaws.{Looped, flatUp-add, flatUp-none}
+use Rattle.records.proofs.BitLaws.{bitOf-below, bitOf-zero, bitOf-value, bitOf-and, halved-out}
 
 -- Rules: the one at a place, and the first `many`.
 pub rule-there : (rules : List Production) (d : Production) (p : ℕ) → p < length rules

@@ -17,11 +17,12 @@ use Rattle.card.specs.declared.Production.{Production}
 use Rattle.chart_model.specs.Build.{flatUp, places, barePlaces, atSplit, byWordRule, byWord, candidates, addEach, fillCell}
 use Rattle.chart_model.proofs.Absent.{flatUp-past, flatUp-same, getElem-past}
 use Rattle.chart_model.proofs.FillModel.{IsCell, Grown, cell-grown, places-other, bareAt, bares-own, fresh-among}
-use Rattle.chart.specs.declared.index.Range.{Range}
-use Rattle.chart.specs.Room.{chartIn, stateOf, Added}
-use Rattle.chart.specs.Tables.{cellAt, bareIn, thisWord, rulesFrom, grammarIn, Finished}
+use Rattle.records.specs.declared.index.Range.{Range}
+use Rattle.records.specs.Room.{chartIn, stateOf, Added}
+use Rattle.records.specs.Index.{cellAt, bareIn}
+use Rattle.chart.specs.Tables.{thisWord, rulesFrom, grammarIn, Finished}
 use Rattle.chart.specs.Fill.{Classified, Noted, Between, Filled, OtherCell}
-use Rattle.chart.proofs.RoomLaws.{chart-length, chart-kept-below}
+use Rattle.records.proofs.RoomLaws.{chart-length, chart-kept-below}
 use Rattle.chart.proofs.FillLaws.{state-some, entered, entered-within, bareFrom-at, bareFrom-le, indexed-more, sorted-more, marks-clear}
 
 -- The word at a place of the line.

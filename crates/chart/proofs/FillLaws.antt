@@ -20,13 +20,14 @@ use Rattle.grammar.proofs.ItemTests.{among-true}
 use Rattle.layout.specs.Bytes.{counted}
 use Rattle.chart_model.specs.Build.{places, barePlaces}
 use Rattle.chart_model.proofs.FillModel.{IsCell, Grown, grown-length, places-other, bares-other, bareAt, places-own, bares-own, foot-place, fresh-among, not-so}
-use Rattle.chart.specs.declared.index.Range.{Range}
-use Rattle.chart.specs.Bits.{bitOf, holdsBit}
-use Rattle.chart.specs.Room.{chartIn, stateOf, footThere, FootFits, markSlot, markBit, markOf, Marked, Working}
-use Rattle.chart.specs.Tables.{spanAt, cellAt, emptyRange, rangeIn, bareIn, Indexed, FirstAbsent, SecondAbsent, Sorted, bareFrom, Finished}
+use Rattle.records.specs.declared.index.Range.{Range}
+use Rattle.records.specs.Bits.{bitOf, holdsBit}
+use Rattle.records.specs.Room.{chartIn, stateOf, footThere, FootFits, markSlot, markBit, markOf, Marked, Working}
+use Rattle.records.specs.Index.{spanAt, cellAt, emptyRange, rangeIn, bareIn, Indexed}
+use Rattle.chart.specs.Tables.{FirstAbsent, SecondAbsent, Sorted, bareFrom, Finished}
 use Rattle.chart.specs.Fill.{Classified, Noted, Between}
-use Rattle.chart.proofs.RoomLaws.{chart-length, foot-at}
-use Rattle.chart.proofs.TableLaws.{span-same, cell-same}
+use Rattle.records.proofs.RoomLaws.{chart-length, foot-at}
+use Rattle.records.proofs.TableLaws.{span-same, cell-same}
 
 -- A cell without records may be begun.
 pub fresh-working : {g : List Rule} {n N room count : ℕ} {chart marks index sets : List ℕ} (A i j : ℕ)

@@ -23,12 +23,13 @@ use Rattle.chart_model.specs.Build.{foldUp, places, barePlaces, byAction, byRul
 use Rattle.chart_model.proofs.BuildLaws.{foldUp-more}
 use Rattle.chart_model.proofs.FillModel.{Grown, same, grown-length, cell-grown, span-grown, length-grown, all-grown, places-other, bares-other, fold-none, not-so}
 use Rattle.chart_model.proofs.Absent.{concatMap-none, choice-none, choice-false, action-none, words-none, splits-none}
-use Rattle.chart.specs.Bits.{bitOf}
-use Rattle.chart.specs.Room.{chartIn}
-use Rattle.chart.specs.Tables.{spanAt, FirstAbsent, SecondAbsent, Sorted, leftIs, OwnSet}
+use Rattle.records.specs.Bits.{bitOf}
+use Rattle.records.specs.Room.{chartIn}
+use Rattle.records.specs.Index.{spanAt}
+use Rattle.chart.specs.Tables.{FirstAbsent, SecondAbsent, Sorted, leftIs, OwnSet}
 use Rattle.chart.specs.Fill.{WordRule, Classified, SpanSet, Between, Filled, Closed}
-use Rattle.chart.proofs.BitLaws.{bitOf-and}
-use Rattle.chart.proofs.RoomLaws.{chart-length}
+use Rattle.records.proofs.BitLaws.{bitOf-and}
+use Rattle.records.proofs.RoomLaws.{chart-length}
 use Rattle.chart.proofs.FillLaws.{state-some, state-over, bit-zero, first-kept, second-kept}
 use Rattle.chart.proofs.FillCells.{word-true, over-filled}
 

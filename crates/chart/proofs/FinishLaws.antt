@@ -12,8 +12,8 @@ use lib.Seq.{set-out, getD-set-same, getD-set-other}
 use borrow.Author.Tests.{eq-eqb, ne-eqb}
 use Rattle.grammar.specs.Items.{Foot}
 use Rattle.grammar.specs.ItemList.{isBare}
-use Rattle.chart.specs.declared.record.Foot as declared
-use Rattle.chart.specs.Room.{footThere, footFrom, markSlot}
+use Rattle.records.specs.declared.record.Foot as declared
+use Rattle.records.specs.Room.{footThere, footFrom, markSlot}
 use Rattle.chart.specs.Tables.{bareFrom, Finished}
 
 -- A mark that is cleared stays so.

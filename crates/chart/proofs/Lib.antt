@@ -1,10 +1,3 @@
-pub mod BitLaws
-pub mod TableLaws
-pub mod RoomLaws
-pub mod MarkLaws
-pub mod AddLaws
-pub mod StepLaws
-pub mod StepCandidates
 pub mod CellLaws
 pub mod FinishLaws
 pub mod SetLaws

@@ -19,10 +19,12 @@ use Rattle.card.specs.declared.Action as declared
 use Rattle.card.specs.declared.Production.{Production}
 use Rattle.card.specs.declared.Production.the-variants.{Word, SideFirst, SideLast}
 use Rattle.card.proofs.Production.{the-type}
-use Rattle.chart.specs.Bits.{bitOf}
-use Rattle.chart.specs.Tables.{spanAt, leftIs, rulesFrom, grammarIn, RuleFits, RulesFit}
+use Rattle.records.specs.Bits.{bitOf}
+use Rattle.records.specs.Index.{spanAt}
+use Rattle.steps.specs.Fits.{RuleFits}
+use Rattle.chart.specs.Tables.{leftIs, rulesFrom, grammarIn, RulesFit}
 use Rattle.chart.specs.Fill.{FirstSide, FirstDependent, SecondSide, SecondDependent, SetOf, Classified, withBit, Joined, WordRule, Noted}
-use Rattle.chart.proofs.BitLaws.{bitOf-or, bitOf-zero, bitOf-power, bitOf-other, one-shifted}
+use Rattle.records.proofs.BitLaws.{bitOf-or, bitOf-zero, bitOf-power, bitOf-other, one-shifted}
 use Rattle.chart.proofs.CellLaws.{rule-there}
 
 -- Bits go into the set at a place: no set loses a bit, and that set has those.

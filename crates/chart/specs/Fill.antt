@@ -11,10 +11,11 @@ use Rattle.grammar.specs.Items.{Foot}
 use Rattle.grammar.specs.Chart.{Record}
 use Rattle.layout.specs.Records.{chartBytes}
 use Rattle.chart_model.specs.Build.{places}
-use Rattle.chart.specs.declared.index.Range.{Range}
-use Rattle.chart.specs.Bits.{bitOf}
-use Rattle.chart.specs.Room.{chartIn, stateOf, FootFits, FeetFit, markOf}
-use Rattle.chart.specs.Tables.{spanAt, Indexed, Sorted, leftIs, OwnSet}
+use Rattle.records.specs.declared.index.Range.{Range}
+use Rattle.records.specs.Bits.{bitOf}
+use Rattle.records.specs.Room.{chartIn, stateOf, FootFits, FeetFit, markOf}
+use Rattle.records.specs.Index.{spanAt, Indexed}
+use Rattle.chart.specs.Tables.{Sorted, leftIs, OwnSet}
 
 -- For each nonterminal A five sets of productions, at A, 16 + A, .., 64 + A: those of A; those whose first element is a side A, or a
 -- dependent A; and those whose second is.

@@ -1,49 +1,22 @@
--- The tables beside the room: where each cell's records stand, and which productions have an element over a span.
+-- The sets beside the room: which productions have an element over a span; and the decoded productions as a grammar.
 use Prim.Native.Nat.{ℕ, zero, suc, _+_, _*_, _-_, _≤_, _<_}
 use mathlib.Core.Path.{_≡_}
-use mathlib.Core.Bool.{Bool, true, false, cond, _&&_, _||_}
+use mathlib.Core.Bool.{Bool, true, false, cond, _&&_}
 use mathlib.Core.List.{List, [], _∷_}
 use mathlib.Core.Option.{Option, none, some}
-use lib.Dec.{eqb, ltb}
+use lib.Dec.{eqb}
 use lib.ListN.{length, getD, getElem?, take}
-use Rattle.grammar.specs.Rewriting.{Rule, Lexical, Spine, Action, Take, Keep, Give}
+use Rattle.grammar.specs.Rewriting.{Rule, Lexical, Spine}
 use Rattle.grammar.specs.ItemList.{isBare}
 use Rattle.grammar.specs.Chart.{Record}
-use Rattle.layout.specs.Bytes.{counted}
 use Rattle.card.specs.Productions.{ruleFrom}
 use Rattle.card.specs.declared.Production.{Production}
 use Rattle.chart_model.specs.Build.{places, barePlaces, byRule}
-use Rattle.chart.specs.declared.index.Range.{Range}
-use Rattle.chart.specs.Bits.{bitOf, holdsBit}
-use Rattle.chart.specs.Room.{footThere, markSlot}
-
--- The place of the span i to j in a table over n words, and of the cell of A over it in a table of N nonterminals a span.
-abbrev pub spanAt : ℕ → ℕ → ℕ → ℕ
-spanAt n i j = i * n + (j - 1)
-
-abbrev pub cellAt : ℕ → ℕ → ℕ → ℕ → ℕ → ℕ
-cellAt n N A i j = spanAt n i j * N + A
-
--- A cell's three numbers: its first position, the one past its last, and one more than that of its bare item, or 0. Numbers past the
--- base, the count of records that were there when the present cell was begun, stand for no records.
-abbrev pub emptyRange : Range
-emptyRange = record { from = 0; to = 0; bare = 0 }
-
-abbrev pub rangeIn : List ℕ → ℕ → ℕ → Range
-rangeIn index cell base =
-    cond (ltb base (getD index (3 * cell + 1) 0) || ltb base (getD index (3 * cell + 2) 0)) emptyRange
-    (record { from = getD index (3 * cell) 0; to = getD index (3 * cell + 1) 0; bare = getD index (3 * cell + 2) 0 })
-
-abbrev pub bareIn : ℕ → List ℕ
-bareIn zero = []
-bareIn (suc m) = m ∷ []
-
--- The table says where the records of b stand: for every cell, filled or not.
-pub record Indexed (n N : ℕ) (b : List Record) (index : List ℕ) : Type 0 where
-  pub long : 3 * (n * n * N) ≤ length index
-  pub ranges : (A i j : ℕ) → A < N → i < j → j ≤ n → let r = rangeIn index (cellAt n N A i j) (length b) in
-      places b A i j ≡ counted (r .from) (r .to - r .from)
-  pub bares : (A i j : ℕ) → A < N → i < j → j ≤ n → barePlaces b A i j ≡ bareIn (rangeIn index (cellAt n N A i j) (length b) .bare)
+use Rattle.records.specs.Bits.{bitOf, holdsBit}
+use Rattle.records.specs.Room.{footThere, markSlot}
+use Rattle.records.specs.Index.{spanAt}
+use Rattle.records.specs.declared.index.Range.{Range}
+use Rattle.steps.specs.Fits.{RuleFits}
 
 -- Neither element of a rule over a split: what the sets let the builder pass over.
 abbrev pub FirstAbsent : List Record → ℕ → ℕ → Rule → Type 0
@@ -81,23 +54,6 @@ rulesFrom (r ∷ rules) = ruleFrom r ∷ rulesFrom rules
 
 abbrev pub grammarIn : List Production → ℕ → List Rule
 grammarIn rules many = take many (rulesFrom rules)
-
--- A nonterminal over a stretch, an action and a rule whose parts are counted.
-abbrev pub SpanFits : ℕ → ℕ → ℕ → ℕ → ℕ → Type 0
-SpanFits n N D k m = (D < N) × (k < m) × (m ≤ n)
-
-abbrev pub ActionFits : Action → Type 0
-ActionFits (Take γ) = (1 ≤ γ) × (γ ≤ 8)
-ActionFits Keep = Unit {0}
-ActionFits (Give γ) = (1 ≤ γ) × (γ ≤ 8)
-
-abbrev pub SymbolsFit : ℕ → List ℕ → Type 0
-SymbolsFit N [] = Unit {0}
-SymbolsFit N (B ∷ Bs) = (B < N) × SymbolsFit N Bs
-
-abbrev pub RuleFits : ℕ → Rule → Type 0
-RuleFits N (Lexical A w) = A < N
-RuleFits N (Spine A a before D after) = (A < N) × ActionFits a × SymbolsFit N before × (D < N) × SymbolsFit N after
 
 abbrev pub RulesFit : ℕ → List Production → Type 0
 RulesFit N rules = (p : ℕ) (r : Rule) → getElem? (rulesFrom rules) p ≡ some r → RuleFits N r

@@ -1,8 +1,8 @@
 // Cell by cell, span by span, length by length.
-use crate::add::Sizes;
-use crate::record::Cell;
-use crate::record::wide;
 use card::Production;
+use records::add::Sizes;
+use records::record::Cell;
+use records::record::wide;
 ghost use mathlib.Core.Path.{_≡_};
 ghost use mathlib.Core.List.{[]};
 ghost use mathlib.Core.Option.{some};
@@ -10,8 +10,9 @@ ghost use Prim.Native.Nat.{ℕ, _+_, _-_, _*_, _≤_, _<_};
 ghost use lib.ListN.{length, getD, take};
 ghost use Rattle.grammar.specs.Input.{wordIs};
 ghost use Rattle.chart_model.specs.Build.{candidates, places, fillCell, closeSpan, closeLength, build};
-ghost use Rattle.chart.specs.Room.{chartIn, Working, Added};
-ghost use Rattle.chart.specs.Tables.{Indexed, Sorted, OwnSet, grammarIn, RulesFit};
+ghost use Rattle.records.specs.Room.{chartIn, Working, Added};
+ghost use Rattle.records.specs.Index.{Indexed};
+ghost use Rattle.chart.specs.Tables.{Sorted, OwnSet, grammarIn, RulesFit};
 ghost use Rattle.chart.specs.Fill.{Classified, Between, Filled, OtherCell, OtherSpan, OtherLength, SpanSet, Closed};
 
 // The candidates of one cell.
@@ -78,8 +79,8 @@ fn fill_cell(
         return now;
     }
     let r = crate::cell::finish(chart, marks, z, c, now);
-    let at = crate::index::cell_at(z.words, z.symbols, wide(c.left), wide(c.from), wide(c.to));
-    crate::index::put_range(index, at, r);
+    let at = records::index::cell_at(z.words, z.symbols, wide(c.left), wide(c.from), wide(c.to));
+    records::index::put_range(index, at, r);
     crate::sets::note(sets, by, z.words, c, r);
     now
 }

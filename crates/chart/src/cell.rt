@@ -1,19 +1,20 @@
 // One cell: the items of A over i to j.
-use crate::add::Sizes;
-use crate::index::Range;
-use crate::record::Cell;
-use crate::record::Foot;
-use crate::record::NOWHERE;
-use crate::record::Step;
-use crate::record::wide;
 use card::Production;
+use records::add::Sizes;
+use records::index::Range;
+use records::record::Cell;
+use records::record::Foot;
+use records::record::NOWHERE;
+use records::record::Step;
+use records::record::wide;
 ghost use mathlib.Core.Path.{_≡_};
 ghost use Prim.Native.Nat.{_+_, _-_, _≤_, _<_};
 ghost use lib.ListN.{length};
 ghost use Rattle.card.specs.Productions.{ruleFrom};
 ghost use Rattle.chart_model.specs.Build.{flatUp, atSplit, byWord};
-ghost use Rattle.chart.specs.Room.{chartIn, Working, Added};
-ghost use Rattle.chart.specs.Tables.{Indexed, Sorted, OwnSet, grammarIn, RulesFit, chosen, thisWord, isWordOf, Finished};
+ghost use Rattle.records.specs.Room.{chartIn, Working, Added};
+ghost use Rattle.records.specs.Index.{Indexed};
+ghost use Rattle.chart.specs.Tables.{Sorted, OwnSet, grammarIn, RulesFit, chosen, thisWord, isWordOf, Finished};
 
 // The productions of a set at one split. Bit p of the set is for production p.
 fn at_split(
@@ -36,7 +37,7 @@ fn at_split(
     while left != 0 {
         if left % 2 == 1 {
             let rule = rules[p];
-            now = crate::step::by_production(chart, marks, index, z, c, k, p as u8, rule, now);
+            now = steps::step::by_production(chart, marks, index, z, c, k, p as u8, rule, now);
             if z.room < now {
                 return now;
             }
@@ -68,8 +69,8 @@ pub fn fill_splits(
     let mut k = i + 1;
     let mut now = count;
     while k < j {
-        let first = sets[2 * crate::index::span_at(z.words, i, k)];
-        let second = sets[2 * crate::index::span_at(z.words, k, j) + 1];
+        let first = sets[2 * records::index::span_at(z.words, i, k)];
+        let second = sets[2 * records::index::span_at(z.words, k, j) + 1];
         let set = first & second & own;
         if set != 0 {
             now = at_split(chart, marks, index, z, c, rules, set, k as u8, now);
@@ -113,7 +114,7 @@ pub fn fill_words(
                 dependent: NOWHERE,
                 continuation: NOWHERE,
             };
-            now = crate::add::add(chart, marks, z, c, f, step, now);
+            now = records::add::add(chart, marks, z, c, f, step, now);
             if z.room < now {
                 return now;
             }
@@ -157,11 +158,11 @@ pub fn finish(chart: &[u8], marks: &mut [u8], z: Sizes, c: Cell, count: usize) -
     let mut m = z.base;
     let mut bare = 0;
     while m < count {
-        let f = crate::record::foot_at(chart, m);
+        let f = records::record::foot_at(chart, m);
         if f.index == 0 {
             bare = m + 1;
         }
-        crate::marks::unmark(marks, z.words, f);
+        records::marks::unmark(marks, z.words, f);
         m += 1;
     }
     Range {

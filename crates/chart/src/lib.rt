@@ -1,15 +1,10 @@
 // The chart builder (document 01, "The chart"): the derivable items of an accepted line, each once, in a lent room.
-mod add;
 mod build;
 mod cell;
-mod index;
-mod marks;
-mod record;
 mod room;
 mod rules;
 mod sets;
 mod sized;
-mod step;
 
 ghost use lib.ListN.{take};
 ghost use Rattle.chart.specs.Built.{Buildable, BuiltRoom};

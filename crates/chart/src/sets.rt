@@ -1,13 +1,14 @@
 // Sets of productions, as 64 bits: which productions a span can serve.
-use crate::index::Range;
-use crate::record::Cell;
-use crate::record::wide;
 use card::Production;
+use records::index::Range;
+use records::record::Cell;
+use records::record::wide;
 ghost use mathlib.Core.Path.{_≡_};
 ghost use Prim.Native.Nat.{_+_, _*_, _≤_, _<_};
 ghost use lib.ListN.{length, getD};
 ghost use Rattle.card.specs.Productions.{ruleFrom};
-ghost use Rattle.chart.specs.Tables.{grammarIn, RuleFits, RulesFit, thisWord};
+ghost use Rattle.steps.specs.Fits.{RuleFits};
+ghost use Rattle.chart.specs.Tables.{grammarIn, RulesFit, thisWord};
 ghost use Rattle.chart.specs.Fill.{Classified, Joined, withBit, SetOf, WordRule, Meets, Noted};
 
 // One production into the set at a place.
@@ -90,8 +91,8 @@ pub fn meeting(sets: &[u64], n: usize, i: usize, j: usize) -> u64
     let mut set = 0u64;
     let mut k = i + 1;
     while k < j {
-        let first = sets[2 * crate::index::span_at(n, i, k)];
-        let second = sets[2 * crate::index::span_at(n, k, j) + 1];
+        let first = sets[2 * records::index::span_at(n, i, k)];
+        let second = sets[2 * records::index::span_at(n, k, j) + 1];
         set = set | (first & second);
         k += 1;
     }
@@ -104,7 +105,7 @@ pub fn note(sets: &mut [u64], by: &[u64; 80], n: usize, c: Cell, r: Range)
     ensures { λ u. ⌜ Noted n (now (by .entry)) (c .left) (c .from) (c .to) (r .bare) (now (sets .entry)) (now (sets .exit)) ⌝ }
 {
     let a = wide(c.left);
-    let at = 2 * crate::index::span_at(n, wide(c.from), wide(c.to));
+    let at = 2 * records::index::span_at(n, wide(c.from), wide(c.to));
     let mut first = by[32 + a];
     let mut second = by[64 + a];
     if r.bare != 0 {

@@ -10,7 +10,7 @@ use Rattle.grammar.specs.ItemList.{item}
 use Rattle.grammar.specs.Chart.{Record, recorded, Justified}
 use Rattle.grammar.proofs.Unfolding.{derived-longer, justified-derived}
 use Rattle.layout.specs.Card.{cardNumber, nonterminalCount, productionCount, production, grammarOf}
-use Rattle.chart.specs.Tables.{RuleFits}
+use Rattle.steps.specs.Fits.{RuleFits}
 use Rattle.chart.proofs.CardFits.{production-fits}
 use Rattle.unfold.proofs.Places.{rule-there, stands-below}
 

@@ -12,7 +12,7 @@ use Rattle.grammar.specs.ItemList.{item}
 use Rattle.grammar.specs.Chart.{Record, recorded}
 use Rattle.layout.specs.Bytes.{counted}
 use Rattle.layout.specs.Records.{recordBytes, chartBytes, recordAt, chartIn}
-use Rattle.chart.proofs.RoomLaws.{written, written-record, record-bytes-length}
+use Rattle.records.proofs.RoomLaws.{written, written-record, record-bytes-length}
 use Rattle.reader.proofs.Feet.{Readable, footIn, FeetReadable}
 
 record-written : (bytes : List ℕ) (m : ℕ) (r : Record) → 16 * m + 16 ≤ length bytes → Readable (footIn r)

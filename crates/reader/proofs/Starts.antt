@@ -21,7 +21,7 @@ use Rattle.layout.proofs.Reading.{line-below, startFound}
 use Rattle.layout.proofs.Charts.{chart-count}
 use Rattle.chart.specs.declared.Built.the-variants.{Chart}
 use Rattle.chart.specs.Built.{BuiltRoom}
-use Rattle.chart.proofs.RoomLaws.{chart-bytes-length}
+use Rattle.records.proofs.RoomLaws.{chart-bytes-length}
 use Rattle.unfold.specs.Unfold.{Held, Found}
 use Rattle.unfold.specs.declared.Start.the-variants.{At, Missing}
 use Rattle.unfold.proofs.Places.{table-stands, stands-below, stands-there}

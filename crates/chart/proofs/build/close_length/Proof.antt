@@ -9,7 +9,7 @@ use Rattle.grammar.specs.Input.{wordIs}
 use Rattle.chart_model.specs.Build.{foldUp, closeSpan}
 use Rattle.chart.specs.Fill.{Filled, OtherLength}
 use Rattle.chart.specs.Tables.{grammarIn}
-use Rattle.chart.specs.Room.{chartIn}
+use Rattle.records.specs.Room.{chartIn}
 use Rattle.chart.proofs.FillSpans.{filled-none, fresh-span, span-turn, span-grows, span-stays, fold-then, fold-over, fold-at}
 use Rattle.chart.proofs.FillLaws.{state-some}
 use Rattle.chart.proofs.build.close_length.Statement.{statement}

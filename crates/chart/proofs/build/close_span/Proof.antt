@@ -11,7 +11,7 @@ use Rattle.grammar.specs.Input.{wordIs}
 use Rattle.chart_model.specs.Build.{foldUp, fillCell}
 use Rattle.chart.specs.Fill.{Filled, OtherSpan}
 use Rattle.chart.specs.Tables.{grammarIn}
-use Rattle.chart.specs.Room.{chartIn}
+use Rattle.records.specs.Room.{chartIn}
 use Rattle.chart.proofs.FillSpans.{filled-none, idle-span, idle-turn, fresh-turn, cell-grows, fold-then, fold-skip, fold-over, fold-at, filled-eq}
 use Rattle.chart.proofs.FillLaws.{state-some}
 use Rattle.chart.proofs.build.close_span.Statement.{statement}

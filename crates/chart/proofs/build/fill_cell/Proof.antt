@@ -5,8 +5,9 @@ use mathlib.Core.Path.{sym, subst}
 use lib.ListN.{getD, take}
 use borrow.Author.Needs.{needs}
 use Rattle.grammar.specs.Input.{wordIs}
-use Rattle.chart.specs.Tables.{grammarIn, Indexed, Sorted, OwnSet}
-use Rattle.chart.specs.Room.{chartIn}
+use Rattle.records.specs.Index.{Indexed}
+use Rattle.chart.specs.Tables.{grammarIn, Sorted, OwnSet}
+use Rattle.records.specs.Room.{chartIn}
 use Rattle.chart.proofs.FillCells.{over-filled, same-filled, cell-state, range-small, cell-place, cell-filled}
 use Rattle.chart.proofs.FillLaws.{fresh-working}
 use Rattle.chart.proofs.build.fill_cell.Statement.{statement}

@@ -5,7 +5,7 @@ use mathlib.Core.Path.{_≡_}
 use lib.ListN.{take}
 use borrow.Author.Needs.{needs}
 use Rattle.grammar.specs.Input.{wordIs}
-use Rattle.chart.specs.Room.{chartIn}
+use Rattle.records.specs.Room.{chartIn}
 use Rattle.chart.specs.Tables.{grammarIn}
 use Rattle.chart.proofs.FillCells.{words-are, splits-are, added-same, grammar-length}
 use Rattle.chart.proofs.build.fill_items.Statement.{statement}

@@ -9,10 +9,10 @@ use mathlib.Core.List.{List, []}
 use lib.ListN.{length}
 use Rattle.grammar.specs.Chart.{Record}
 use Rattle.card.specs.declared.Production.the-variants.{Word}
-use Rattle.chart.specs.Room.{chartIn, Added}
+use Rattle.records.specs.Room.{chartIn, Added}
 use Rattle.chart.specs.Tables.{chosen}
-use Rattle.chart.proofs.StepLaws.{Looped, added-as, loop-start, loop-works, loop-kept, loop-turn, loop-over, loop-skip, loop-rest}
-use Rattle.chart.proofs.BitLaws.{halved-more, halved-left}
+use Rattle.steps.proofs.StepLaws.{Looped, added-as, loop-start, loop-works, loop-kept, loop-turn, loop-over, loop-skip, loop-rest}
+use Rattle.records.proofs.BitLaws.{halved-more, halved-left}
 use Rattle.chart.proofs.CellLaws.{rule-there, chosen-odd, chosen-even, chosen-after, indexed-same, looped-same}
 use Rattle.chart.proofs.cell.at_split.Statement.{statement}
 use Rattle.chart.proofs.cell.at_split.Tie as tie

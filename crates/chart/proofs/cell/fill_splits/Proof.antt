@@ -9,9 +9,10 @@ use lib.Bits.{bitAnd}
 use lib.ListN.{length, getD}
 use Rattle.grammar.specs.Chart.{Record}
 use Rattle.chart_model.specs.Build.{flatUp, atSplit}
-use Rattle.chart.specs.Room.{chartIn}
-use Rattle.chart.specs.Tables.{grammarIn, spanAt, chosen}
-use Rattle.chart.proofs.StepLaws.{Looped, added-as, loop-start, loop-works, loop-kept, loop-turn, loop-over, loop-skip, loop-end}
+use Rattle.records.specs.Room.{chartIn}
+use Rattle.records.specs.Index.{spanAt}
+use Rattle.chart.specs.Tables.{grammarIn, chosen}
+use Rattle.steps.proofs.StepLaws.{Looped, added-as, loop-start, loop-works, loop-kept, loop-turn, loop-over, loop-skip, loop-end}
 use Rattle.chart.proofs.CellLaws.{split-same, split-none, indexed-same, looped-at, looped-same}
 use Rattle.chart.proofs.cell.fill_splits.Statement.{statement}
 use Rattle.chart.proofs.cell.fill_splits.Tie as tie

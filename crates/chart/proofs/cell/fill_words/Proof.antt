@@ -9,9 +9,9 @@ use lib.ListN.{length}
 use Rattle.grammar.specs.Chart.{Record}
 use Rattle.card.specs.declared.Production.the-variants.{Word}
 use Rattle.chart_model.specs.Build.{flatUp, byWord}
-use Rattle.chart.specs.Room.{Added}
+use Rattle.records.specs.Room.{Added}
 use Rattle.chart.specs.Tables.{grammarIn, thisWord}
-use Rattle.chart.proofs.StepLaws.{Looped, added-as, loop-start, loop-works, loop-turn, loop-over, loop-skip, loop-end}
+use Rattle.steps.proofs.StepLaws.{Looped, added-as, loop-start, loop-works, loop-turn, loop-over, loop-skip, loop-end}
 use Rattle.chart.proofs.CellLaws.{word-one, word-none, looped-same}
 use Rattle.chart.proofs.cell.fill_words.Statement.{statement}
 use Rattle.chart.proofs.cell.fill_words.Tie as tie

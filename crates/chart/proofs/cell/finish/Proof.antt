@@ -5,10 +5,10 @@ use native.Mathlib.Omega.{arith}
 use mathlib.Core.Path.{sym, _∙_, ap, subst}
 use mathlib.Core.Logic.{⊎-elim}
 use lib.ListN.{length, set}
-use Rattle.chart.specs.Room.{footThere, markSlot}
+use Rattle.records.specs.Room.{footThere, markSlot}
 use Rattle.chart.specs.Tables.{Finished}
-use Rattle.chart.proofs.StepLaws.{foot-fits, record-there}
-use Rattle.chart.proofs.TableLaws.{slot-below}
+use Rattle.steps.proofs.StepLaws.{foot-fits, record-there}
+use Rattle.records.proofs.TableLaws.{slot-below}
 use Rattle.chart.proofs.FinishLaws.{found-bare, found-foot, finish-start, finish-turn, finish-end}
 use Rattle.chart.proofs.cell.finish.Statement.{statement}
 use Rattle.chart.proofs.cell.finish.Tie as tie

@@ -4,8 +4,8 @@ use mathlib.Core.Logic.{⊎-elim}
 use borrow.Author.Needs.{needs}
 use lib.ListN.{length-set}
 use Rattle.chart.proofs.SetLaws.{CellSets, sets-plain, sets-bare, noted}
-use Rattle.chart.proofs.index.span_at.Reads as span-at-reads
-use Rattle.chart.proofs.record.wide.Reads as wide-reads
+use Rattle.records.proofs.index.span_at.Reads as span-at-reads
+use Rattle.records.proofs.record.wide.Reads as wide-reads
 use Rattle.chart.proofs.sets.note.Lts as lts
 use Rattle.chart.proofs.sets.note.Reads as reads
 use Rattle.chart.proofs.sets.note.Statement.{statement}

@@ -1,0 +1,5 @@
+pub mod BitLaws
+pub mod TableLaws
+pub mod RoomLaws
+pub mod MarkLaws
+pub mod AddLaws

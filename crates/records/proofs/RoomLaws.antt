@@ -1,0 +1,200 @@
+-- The records in a room. `chartIn` is one record a position, each read from its own 16 bytes, so records change only where their
+-- bytes do; and a record that was written is read back, since its bytes stand one after the other.
+use Prim.Native.Nat.{ℕ, zero, suc, _+_, _*_, _≤_, _<_}
+use native.Mathlib.Nat.{zero-add, add-zero, suc-add, add-suc, add-assoc}
+use native.Mathlib.Numerals.{add-one}
+use native.Mathlib.Omega.{arith}
+use mathlib.Core.Path.{_≡_, refl, sym, _∙_, ap, ap₂}
+use mathlib.Core.Bool.{Bool, true, false, cond}
+use mathlib.Core.List.{List, [], _∷_, _++_, map, append-assoc, append-nil}
+use mathlib.Core.Option.{some}
+use lib.Dec.{eqb}
+use lib.ListN.{length, getD, getElem?, take, drop, length-append, length-drop, length-map}
+use lib.Seq.{getD-take, take-take, take-at, drop-at, getD-append-add, length-take-le, take-all, paste}
+use borrow.Author.Tests.{ne-eqb}
+use Rattle.grammar.specs.Items.{Foot, bare, foot}
+use Rattle.grammar.specs.ItemList.{item}
+use Rattle.grammar.specs.Chart.{Record, recorded}
+use Rattle.grammar.proofs.ListLaws.{length-concatMap}
+use Rattle.layout.specs.Bytes.{byteAt, wordAt, counted, lowByte, highByte}
+use Rattle.layout.specs.Records.{recordBytes, chartBytes}
+use Rattle.chart_model.specs.Build.{footIn, footAt}
+use Rattle.records.specs.declared.record.Cell.{Cell}
+use Rattle.records.specs.declared.record.Foot as declared
+use Rattle.records.specs.declared.record.Step.{Step}
+use Rattle.records.specs.Room.{footOf, footThere, recordAt, chartIn, recordFrom, FootFits}
+
+-- A function over places that are counted: how many, one more, at one place, and by another function that agrees there.
+pub length-counted : (k n : ℕ) → length (counted k n) ≡ n
+length-counted k zero = refl
+length-counted k (suc n) = ap suc (length-counted (suc k) n)
+
+pub counted-more : (k n : ℕ) → counted k (suc n) ≡ counted k n ++ ((k + n) ∷ [])
+counted-more k zero = rw add-zero
+counted-more k (suc n) = rw (counted-more (suc k) n, suc-add, add-suc)
+
+pub map-append : {A B : Type 0} (f : A → B) (l t : List A) → map f (l ++ t) ≡ map f l ++ map f t
+map-append f [] t = refl
+map-append f (x ∷ l) t = ap (_∷_ (f x)) (map-append f l t)
+
+pub counted-at : {A : Type 0} (f : ℕ → A) (k n m : ℕ) → m < n → getElem? (map f (counted k n)) m ≡ some (f (k + m))
+counted-at f k zero m h = absurd (omega arith)
+counted-at f k (suc n) zero h = rw add-zero
+counted-at f k (suc n) (suc m) h = rw (counted-at f (suc k) n m (omega arith), suc-add, add-suc)
+
+pub counted-same : {A : Type 0} (f g : ℕ → A) (k n : ℕ) → ((m : ℕ) → k ≤ m → m < k + n → f m ≡ g m)
+    → map f (counted k n) ≡ map g (counted k n)
+counted-same f g k zero h = refl
+counted-same f g k (suc n) h =
+    ap₂ _∷_ (h k (omega arith) (omega arith)) (counted-same f g (suc k) n (λ m a b. h m (omega arith) (omega arith)))
+
+pub counted-last : {A : Type 0} (f : ℕ → A) (n : ℕ) → map f (counted 0 (n + 1)) ≡ map f (counted 0 n) ++ (f n ∷ [])
+counted-last f n =
+    ap (λ (k : ℕ). map f (counted 0 k)) (add-one n) ∙ ap (map f) (counted-more 0 n) ∙ map-append f (counted 0 n) ((0 + n) ∷ [])
+    ∙ ap (λ (k : ℕ). map f (counted 0 n) ++ (f k ∷ [])) (zero-add n)
+
+-- The chart in a room: its length, one record more, one of its records, the foot of one.
+pub chart-length : (bytes : List ℕ) (n : ℕ) → length (chartIn bytes n) ≡ n
+chart-length bytes n = length-map (counted 0 n) (recordAt bytes) ∙ length-counted 0 n
+
+pub chart-more : (bytes : List ℕ) (n : ℕ) → chartIn bytes (n + 1) ≡ chartIn bytes n ++ (recordAt bytes n ∷ [])
+chart-more bytes n = counted-last (recordAt bytes) n
+
+pub chart-at : (bytes : List ℕ) (n m : ℕ) → m < n → getElem? (chartIn bytes n) m ≡ some (recordAt bytes m)
+chart-at bytes n m h = counted-at (recordAt bytes) 0 n m h ∙ ap (λ (k : ℕ). some (recordAt bytes k)) (zero-add m)
+
+pub foot-at : (bytes : List ℕ) (n m : ℕ) → m < n → footAt (chartIn bytes n) m ≡ footThere bytes m
+foot-at bytes n m h = ap footIn (chart-at bytes n m h)
+
+-- Bytes that agree up to a place agree up to a lower one, and then so do the records below it.
+pub take-less : (old new : List ℕ) (m n : ℕ) → m ≤ n → take n new ≡ take n old → take m new ≡ take m old
+take-less old new m n h e = sym (take-take m n new h) ∙ ap (take m) e ∙ take-take m n old h
+
+pub byte-kept : (old new : List ℕ) (n k : ℕ) → k < n → take n new ≡ take n old → byteAt new k ≡ byteAt old k
+byte-kept old new n k h e = sym (getD-take n new k 0 h) ∙ ap (λ (l : List ℕ). getD l k 0) e ∙ getD-take n old k 0 h
+
+pub foot-kept : (old new : List ℕ) (n m : ℕ) → m < n → take (16 * n) new ≡ take (16 * n) old → footThere new m ≡ footThere old m
+foot-kept old new n m h e =
+    let at : (k : ℕ) → k < 16 * n → byteAt new k ≡ byteAt old k = λ k l. byte-kept old new (16 * n) k l e in
+    rw (at (16 * m + 1) (omega arith), at (16 * m + 4) (omega arith), at (16 * m + 5) (omega arith), at (16 * m + 6) (omega arith))
+
+pub record-kept : (old new : List ℕ) (n m : ℕ) → m < n → take (16 * n) new ≡ take (16 * n) old → recordAt new m ≡ recordAt old m
+record-kept old new n m h e =
+    let at : (k : ℕ) → k < 16 * n → byteAt new k ≡ byteAt old k = λ k l. byte-kept old new (16 * n) k l e in
+    let word : (k : ℕ) → k + 1 < 16 * n → wordAt new k ≡ wordAt old k = λ k l. rw (at k (omega arith), at (k + 1) l) in
+    cc (
+      at (16 * m) (omega arith),
+      at (16 * m + 2) (omega arith),
+      at (16 * m + 3) (omega arith),
+      foot-kept old new n m h e,
+      at (16 * m + 7) (omega arith),
+      word (16 * m + 8) (omega arith),
+      word (16 * m + 10) (omega arith),
+      word (16 * m + 12) (omega arith),
+    )
+
+pub chart-kept : (old new : List ℕ) (n : ℕ) → take (16 * n) new ≡ take (16 * n) old → chartIn new n ≡ chartIn old n
+chart-kept old new n e =
+    counted-same (recordAt new) (recordAt old) 0 n (λ m a b. record-kept old new n m (omega arith) e)
+
+pub chart-kept-below : (old new : List ℕ) (m n : ℕ) → m ≤ n → take (16 * n) new ≡ take (16 * n) old → chartIn new m ≡ chartIn old m
+chart-kept-below old new m n h e = chart-kept old new m (take-less old new (16 * m) (16 * n) (omega arith) e)
+
+-- The bytes of a chart.
+pub record-bytes-length : (r : Record) → length (recordBytes r) ≡ 16
+record-bytes-length (recorded (item A i j bare) p x y z) = refl
+record-bytes-length (recorded (item A i j (foot γ B q t)) p x y z) = refl
+
+pub chart-bytes-length : (c : List Record) → length (chartBytes c) ≡ 16 * length c
+chart-bytes-length c = omega (arith, length-concatMap recordBytes 16 record-bytes-length c)
+
+pub chart-bytes-append : (c d : List Record) → chartBytes (c ++ d) ≡ chartBytes c ++ chartBytes d
+chart-bytes-append [] d = refl
+chart-bytes-append (r ∷ c) d = rw (chart-bytes-append c d, append-assoc)
+
+pub chart-bytes-last : (c : List Record) (r : Record) → chartBytes (c ++ (r ∷ [])) ≡ chartBytes c ++ recordBytes r
+chart-bytes-last c r = chart-bytes-append c (r ∷ []) ∙ ap (λ (l : List ℕ). chartBytes c ++ l) (append-nil (recordBytes r))
+
+-- All of a source pasted into a room.
+pub pasted-whole : (d : List ℕ) (at : ℕ) (s : List ℕ) (n : ℕ) → length s ≡ n → paste d at s n ≡ take at d ++ (s ++ drop (at + n) d)
+pasted-whole d at s n e =
+    append-assoc (take at d) (take n s) (drop (at + n) d)
+    ∙ ap (λ (l : List ℕ). take at d ++ (l ++ drop (at + n) d)) (take-all n s (omega arith))
+
+-- A room after a record was written at position n.
+abbrev pub written : List ℕ → ℕ → Record → List ℕ
+written old n r = take (16 * n) old ++ (recordBytes r ++ drop (16 * n + 16) old)
+
+-- The record that 16 bytes stand for.
+pub word-halves : (x : ℕ) → lowByte x + 256 * highByte x ≡ x
+word-halves x = omega arith
+
+read-word : (bytes : List ℕ) (at k v : ℕ) → byteAt bytes (at + k) ≡ lowByte v → byteAt bytes (at + (k + 1)) ≡ highByte v
+    → wordAt bytes (at + k) ≡ v
+read-word bytes at k v low high = rw (low, add-assoc, high) (word-halves v)
+
+read-back : (bytes : List ℕ) (n A γ i j B q t p x y z : ℕ) (rest : List ℕ)
+    → ((k : ℕ) → byteAt bytes (16 * n + k)
+    ≡ byteAt (A ∷ γ ∷ i ∷ j ∷ B ∷ q ∷ t ∷ p ∷ lowByte x ∷ highByte x ∷ lowByte y ∷ highByte y ∷ lowByte z ∷ highByte z ∷ rest) k)
+    → recordAt bytes n ≡ recorded (item A i j (footOf γ B q t)) p x y z
+read-back bytes n A γ i j B q t p x y z rest h =
+    let first : byteAt bytes (16 * n) ≡ A = ap (byteAt bytes) (sym (add-zero (16 * n))) ∙ h 0 in
+    let word = read-word bytes (16 * n) in
+    rw (first, h 1, h 2, h 3, h 4, h 5, h 6, h 7, word 8 x (h 8) (h 9), word 10 y (h 10) (h 11), word 12 z (h 12) (h 13))
+
+module _ (old : List ℕ) (n : ℕ) (r : Record) (fits : 16 * n + 16 ≤ length old) where
+  head-length : length (take (16 * n) old) ≡ 16 * n
+  head-length = length-take-le (16 * n) old (omega arith)
+
+  pub written-length : length (written old n r) ≡ length old
+  written-length = simp (length-append, length-drop, head-length, record-bytes-length) (omega arith)
+
+  pub written-kept : take (16 * n) (written old n r) ≡ take (16 * n) old
+  written-kept = take-at (take (16 * n) old) _ (16 * n) head-length
+
+  front : length (take (16 * n) old ++ recordBytes r) ≡ 16 * (n + 1)
+  front = omega (arith, length-append (take (16 * n) old) (recordBytes r), head-length, record-bytes-length r)
+
+  pub written-taken : take (16 * (n + 1)) (written old n r) ≡ take (16 * n) old ++ recordBytes r
+  written-taken =
+      ap (take (16 * (n + 1))) (sym (append-assoc (take (16 * n) old) (recordBytes r) (drop (16 * n + 16) old)))
+      ∙ take-at (take (16 * n) old ++ recordBytes r) (drop (16 * n + 16) old) (16 * (n + 1)) front
+
+  pub written-rest : drop (16 * (n + 1)) (written old n r) ≡ drop (16 * (n + 1)) old
+  written-rest =
+      let e : 16 * n + 16 ≡ 16 * (n + 1) = omega arith in
+      ap (drop (16 * (n + 1))) (sym (append-assoc (take (16 * n) old) (recordBytes r) (drop (16 * n + 16) old)))
+      ∙ drop-at (take (16 * n) old ++ recordBytes r) (drop (16 * n + 16) old) (16 * (n + 1)) front
+      ∙ ap (λ (k : ℕ). drop k old) e
+
+  written-byte : (k : ℕ) → byteAt (written old n r) (16 * n + k) ≡ byteAt (recordBytes r ++ drop (16 * n + 16) old) k
+  written-byte k =
+      ap (λ (m : ℕ). byteAt (written old n r) (m + k)) (sym head-length)
+      ∙ getD-append-add (take (16 * n) old) (recordBytes r ++ drop (16 * n + 16) old) k 0
+
+-- It is read back.
+pub written-record : (old : List ℕ) (n w N A i j : ℕ) (φ : Foot) (p x y z : ℕ) → 16 * n + 16 ≤ length old → FootFits w N φ
+    → let r = recorded (item A i j φ) p x y z in recordAt (written old n r) n ≡ r
+written-record old n w N A i j bare p x y z h f =
+    let r = recorded (item A i j bare) p x y z in
+    read-back (written old n r) n A 0 i j 255 0 0 p x y z (0 ∷ 0 ∷ drop (16 * n + 16) old) (written-byte old n r h)
+written-record old n w N A i j (foot γ B q t) p x y z h (g, u, b, l, m) =
+    let r = recorded (item A i j (foot γ B q t)) p x y z in
+    read-back (written old n r) n A γ i j B q t p x y z (0 ∷ 0 ∷ drop (16 * n + 16) old) (written-byte old n r h)
+    ∙ ap (λ (v : Bool). recorded (item A i j (cond v bare (foot γ B q t))) p x y z) (ne-eqb γ 0 (λ e. omega arith))
+
+pub written-from : (old : List ℕ) (n : ℕ) (c : Cell) (f : declared.Foot) (s : Step) → 16 * n + 16 ≤ length old
+    → recordAt (written old n (recordFrom c f s)) n ≡ recordFrom c f s
+written-from old n c f s h = go (eqb (f .index) 0) refl
+  where
+    made : Bool → Record
+    made v =
+        recorded (item (c .left) (c .from) (c .to) (cond v bare (foot (f .index) (f .symbol) (f .from) (f .to)))) (s .production)
+        (s .side) (s .dependent) (s .continuation)
+
+    go : (v : Bool) → eqb (f .index) 0 ≡ v → recordAt (written old n (made v)) n ≡ made v
+    go true e = written-record old n 0 0 (c .left) (c .from) (c .to) bare (s .production) (s .side) (s .dependent) (s .continuation) h tt
+    go false e =
+        read-back (written old n (made false)) n (c .left) (f .index) (c .from) (c .to) (f .symbol) (f .from) (f .to) (s .production)
+        (s .side) (s .dependent) (s .continuation) (0 ∷ 0 ∷ drop (16 * n + 16) old) (written-byte old n (made false) h)
+        ∙ ap made e

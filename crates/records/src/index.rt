@@ -1,0 +1,72 @@
+// Where the records of each cell stand.
+ghost use mathlib.Core.Path.{_≡_};
+ghost use Prim.Native.Nat.{_+_, _*_, _≤_, _<_};
+ghost use lib.ListN.{length, set};
+ghost use Rattle.records.specs.Index.{spanAt, cellAt, rangeIn};
+
+// The positions from..to, and one more than the position of the bare item, or 0.
+pub struct Range {
+    pub from: usize,
+    pub to: usize,
+    pub bare: usize,
+}
+
+fn wide16(x: u16) -> usize
+    ensures { λ r. ⌜ r ≡ x ⌝ }
+{
+    x as usize
+}
+
+// The place of a span in a table over n words, and of a cell in a table of N nonterminals a span.
+pub fn span_at(n: usize, i: usize, j: usize) -> usize
+    requires { ⌜ (n ≤ 24) × (i < j) × (j ≤ n) ⌝ }
+    ensures { λ r. ⌜ (r ≡ spanAt n i j) × (r < n * n) ⌝ }
+{
+    i * n + (j - 1)
+}
+
+pub fn cell_at(n: usize, symbols: usize, a: usize, i: usize, j: usize) -> usize
+    requires { ⌜ (n ≤ 24) × (symbols ≤ 16) × (a < symbols) × (i < j) × (j ≤ n) ⌝ }
+    ensures { λ r. ⌜ (r ≡ cellAt n symbols a i j) × (r < n * n * symbols) ⌝ }
+{
+    span_at(n, i, j) * symbols + a
+}
+
+// The range of a cell. Numbers past the base stand for no records.
+pub fn range_of(index: &[u16], cell: usize, base: usize) -> Range
+    requires { ⌜ 3 * cell + 3 ≤ length (now index) ⌝ }
+    ensures { λ r. ⌜ r ≡ rangeIn (now (index .entry)) cell base ⌝ }
+{
+    let at = 3 * cell;
+    let to = wide16(index[at + 1]);
+    let bare = wide16(index[at + 2]);
+    if base < to {
+        return Range {
+            from: 0,
+            to: 0,
+            bare: 0,
+        };
+    }
+    if base < bare {
+        return Range {
+            from: 0,
+            to: 0,
+            bare: 0,
+        };
+    }
+    Range {
+        from: wide16(index[at]),
+        to,
+        bare,
+    }
+}
+
+pub fn put_range(index: &mut [u16], cell: usize, r: Range)
+    requires { ⌜ (3 * cell + 3 ≤ length (now index)) × (r .from < 65536) × (r .to < 65536) × (r .bare < 65536) ⌝ }
+    ensures { λ u. ⌜ now (index .exit) ≡ set (set (set (now (index .entry)) (3 * cell) (r .from)) (3 * cell + 1) (r .to)) (3 * cell + 2) (r .bare) ⌝ }
+{
+    let at = 3 * cell;
+    index[at] = r.from as u16;
+    index[at + 1] = r.to as u16;
+    index[at + 2] = r.bare as u16;
+}

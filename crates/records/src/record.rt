@@ -1,0 +1,110 @@
+// Records in the room: 16 bytes each.
+ghost use mathlib.Core.Path.{_≡_};
+ghost use mathlib.Core.List.{_++_};
+ghost use Prim.Native.Nat.{_+_, _*_, _≤_, _<_};
+ghost use lib.ListN.{length, take, drop};
+ghost use Rattle.layout.specs.Bytes.{lowByte, highByte};
+ghost use Rattle.layout.specs.Records.{recordBytes};
+ghost use Rattle.records.specs.Room.{footThere, footFrom, recordFrom};
+
+// A, i and j of the items of one cell.
+pub struct Cell {
+    pub left: u8,
+    pub from: u8,
+    pub to: u8,
+}
+
+// γ, B, p and q of an item; index 0 where there is no foot.
+pub struct Foot {
+    pub index: u8,
+    pub symbol: u8,
+    pub from: u8,
+    pub to: u8,
+}
+
+// How an item was derived: its production and the positions of its antecedents, 65535 for none.
+pub struct Step {
+    pub production: u8,
+    pub side: u16,
+    pub dependent: u16,
+    pub continuation: u16,
+}
+
+pub const NOWHERE: u16 = 65535;
+
+pub fn wide(b: u8) -> usize
+    ensures { λ r. ⌜ (r ≡ b) × (r < 256) ⌝ }
+{
+    b as usize
+}
+
+// The foot of the record at position m.
+pub fn foot_at(chart: &[u8], m: usize) -> Foot
+    requires { ⌜ 16 * m + 16 ≤ length (now chart) ⌝ }
+    ensures { λ r. ⌜ footFrom r ≡ footThere (now (chart .entry)) m ⌝ }
+{
+    let at = 16 * m;
+    Foot {
+        index: chart[at + 1],
+        symbol: chart[at + 4],
+        from: chart[at + 5],
+        to: chart[at + 6],
+    }
+}
+
+fn low(x: u16) -> u8
+    ensures { λ r. ⌜ r ≡ lowByte x ⌝ }
+{
+    (x % 256) as u8
+}
+
+fn high(x: u16) -> u8
+    ensures { λ r. ⌜ r ≡ highByte x ⌝ }
+{
+    (x / 256) as u8
+}
+
+// All the bytes of src into the room at a place.
+fn put_all(room: &mut [u8], at: usize, src: &[u8; 16])
+    requires { ⌜ (at + 16 ≤ length (now room)) × (length (now src) ≡ 16) ⌝ }
+    ensures { λ r. ⌜ now (room .exit) ≡ take at (now (room .entry)) ++ (now (src .entry) ++ drop (at + 16) (now (room .entry))) ⌝ }
+{
+    let mut k = 0;
+    while k < 16 {
+        room[at + k] = src[k];
+        k += 1;
+    }
+}
+
+pub fn put_record(chart: &mut [u8], m: usize, c: Cell, f: Foot, s: Step)
+    requires { ⌜ 16 * m + 16 ≤ length (now chart) ⌝ }
+    ensures { λ r. ⌜ now (chart .exit) ≡ take (16 * m) (now (chart .entry)) ++ (recordBytes (recordFrom c f s) ++ drop (16 * m + 16) (now (chart .entry))) ⌝ }
+{
+    let mut symbol = f.symbol;
+    let mut from = f.from;
+    let mut to = f.to;
+    if f.index == 0 {
+        symbol = 255;
+        from = 0;
+        to = 0;
+    }
+    let bytes = [
+        c.left,
+        f.index,
+        c.from,
+        c.to,
+        symbol,
+        from,
+        to,
+        s.production,
+        low(s.side),
+        high(s.side),
+        low(s.dependent),
+        high(s.dependent),
+        low(s.continuation),
+        high(s.continuation),
+        0,
+        0,
+    ];
+    put_all(chart, 16 * m, &bytes);
+}

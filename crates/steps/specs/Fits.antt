@@ -1,0 +1,21 @@
+-- What the deduction steps ask of their parts: nonterminals, indices and stretches that are counted.
+use Prim.Native.Nat.{ℕ, _≤_, _<_}
+use mathlib.Core.List.{List, [], _∷_}
+use Rattle.grammar.specs.Rewriting.{Rule, Lexical, Spine, Action, Take, Keep, Give}
+
+-- A nonterminal over a stretch, an action and a rule whose parts are counted.
+abbrev pub SpanFits : ℕ → ℕ → ℕ → ℕ → ℕ → Type 0
+SpanFits n N D k m = (D < N) × (k < m) × (m ≤ n)
+
+abbrev pub ActionFits : Action → Type 0
+ActionFits (Take γ) = (1 ≤ γ) × (γ ≤ 8)
+ActionFits Keep = Unit {0}
+ActionFits (Give γ) = (1 ≤ γ) × (γ ≤ 8)
+
+abbrev pub SymbolsFit : ℕ → List ℕ → Type 0
+SymbolsFit N [] = Unit {0}
+SymbolsFit N (B ∷ Bs) = (B < N) × SymbolsFit N Bs
+
+abbrev pub RuleFits : ℕ → Rule → Type 0
+RuleFits N (Lexical A w) = A < N
+RuleFits N (Spine A a before D after) = (A < N) × ActionFits a × SymbolsFit N before × (D < N) × SymbolsFit N after

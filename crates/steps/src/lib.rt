@@ -1,0 +1,2 @@
+// The deduction steps of one production at one split (document 01, "The chart").
+pub mod step;

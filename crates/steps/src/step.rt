@@ -1,0 +1,303 @@
+// The deduction steps of one production over one split. In each contract the records that may be added are those of the model
+// (chart_model), made from the records that were there when the cell was begun.
+use card::Action;
+use card::Production;
+use records::add::Sizes;
+use records::index::Range;
+use records::record::Cell;
+use records::record::Foot;
+use records::record::NOWHERE;
+use records::record::Step;
+use records::record::wide;
+ghost use Prim.Native.Nat.{_-_, _≤_, _<_};
+ghost use Rattle.layout.specs.Bytes.{counted};
+ghost use Rattle.grammar.specs.Lists.{concatMap};
+ghost use Rattle.card.specs.Productions.{actionFrom, ruleFrom};
+ghost use Rattle.chart_model.specs.Build.{flatUp, keptFrom, continued, givenFrom, takenFrom, byAction, byRule, barePlaces};
+ghost use Rattle.records.specs.Room.{chartIn, footFrom, FootFits, Working, Added};
+ghost use Rattle.records.specs.Index.{Indexed};
+ghost use Rattle.steps.specs.Fits.{SpanFits, ActionFits, RuleFits};
+
+// What a step has before its dependent is known: the production and the side's position.
+pub struct Side {
+    pub production: u8,
+    pub position: u16,
+}
+
+// Keep: each dependent's foot.
+fn keep_each(
+    chart: &mut [u8],
+    marks: &mut [u8],
+    z: Sizes,
+    c: Cell,
+    s: Side,
+    from: usize,
+    to: usize,
+    count: usize,
+) -> usize
+    requires { ⌜ Working (z .words) (z .symbols) (z .room) (c .left) (c .from) (c .to) (now chart) (now marks) count × (to ≤ z .base) × (z .base ≤ count) ⌝ }
+    ensures { λ r. ⌜ Added (z .words) (z .symbols) (z .room) (c .left) (c .from) (c .to) (flatUp (keptFrom (chartIn (now (chart .entry)) (z .base)) (c .left) (c .from) (c .to) (s .production) (s .position)) from (to - from)) (now (chart .entry)) (now (marks .entry)) count (now (chart .exit)) (now (marks .exit)) r ⌝ }
+{
+    let mut y = from;
+    let mut now = count;
+    while y < to {
+        let f = records::record::foot_at(chart, y);
+        let step = Step {
+            production: s.production,
+            side: s.position,
+            dependent: y as u16,
+            continuation: NOWHERE,
+        };
+        now = records::add::add(chart, marks, z, c, f, step, now);
+        if z.room < now {
+            return now;
+        }
+        y += 1;
+    }
+    now
+}
+
+// Give: each continuation of one dependent.
+fn continue_each(
+    chart: &mut [u8],
+    marks: &mut [u8],
+    z: Sizes,
+    c: Cell,
+    s: Side,
+    y: u16,
+    from: usize,
+    to: usize,
+    count: usize,
+) -> usize
+    requires { ⌜ Working (z .words) (z .symbols) (z .room) (c .left) (c .from) (c .to) (now chart) (now marks) count × (to ≤ z .base) × (z .base ≤ count) ⌝ }
+    ensures { λ r. ⌜ Added (z .words) (z .symbols) (z .room) (c .left) (c .from) (c .to) (flatUp (continued (chartIn (now (chart .entry)) (z .base)) (c .left) (c .from) (c .to) (s .production) (s .position) y) from (to - from)) (now (chart .entry)) (now (marks .entry)) count (now (chart .exit)) (now (marks .exit)) r ⌝ }
+{
+    let mut k = from;
+    let mut now = count;
+    while k < to {
+        let f = records::record::foot_at(chart, k);
+        let step = Step {
+            production: s.production,
+            side: s.position,
+            dependent: y,
+            continuation: k as u16,
+        };
+        now = records::add::add(chart, marks, z, c, f, step, now);
+        if z.room < now {
+            return now;
+        }
+        k += 1;
+    }
+    now
+}
+
+fn give_one(
+    chart: &mut [u8],
+    marks: &mut [u8],
+    index: &[u16],
+    z: Sizes,
+    c: Cell,
+    s: Side,
+    g: u8,
+    y: usize,
+    count: usize,
+) -> usize
+    requires { ⌜ Working (z .words) (z .symbols) (z .room) (c .left) (c .from) (c .to) (now chart) (now marks) count × (y < z .base) × (z .base ≤ count) × (1 ≤ g) × Indexed (z .words) (z .symbols) (chartIn (now chart) (z .base)) (now index) ⌝ }
+    ensures { λ r. ⌜ Added (z .words) (z .symbols) (z .room) (c .left) (c .from) (c .to) (givenFrom (chartIn (now (chart .entry)) (z .base)) (c .left) (c .from) (c .to) (s .production) (s .position) g y) (now (chart .entry)) (now (marks .entry)) count (now (chart .exit)) (now (marks .exit)) r ⌝ }
+{
+    let f = records::record::foot_at(chart, y);
+    if f.index != g {
+        return count;
+    }
+    let at = records::index::cell_at(z.words, z.symbols, wide(f.symbol), wide(f.from), wide(f.to));
+    let r = records::index::range_of(index, at, z.base);
+    continue_each(chart, marks, z, c, s, y as u16, r.from, r.to, count)
+}
+
+fn give_each(
+    chart: &mut [u8],
+    marks: &mut [u8],
+    index: &[u16],
+    z: Sizes,
+    c: Cell,
+    s: Side,
+    g: u8,
+    from: usize,
+    to: usize,
+    count: usize,
+) -> usize
+    requires { ⌜ Working (z .words) (z .symbols) (z .room) (c .left) (c .from) (c .to) (now chart) (now marks) count × (to ≤ z .base) × (z .base ≤ count) × (1 ≤ g) × Indexed (z .words) (z .symbols) (chartIn (now chart) (z .base)) (now index) ⌝ }
+    ensures { λ r. ⌜ Added (z .words) (z .symbols) (z .room) (c .left) (c .from) (c .to) (flatUp (givenFrom (chartIn (now (chart .entry)) (z .base)) (c .left) (c .from) (c .to) (s .production) (s .position) g) from (to - from)) (now (chart .entry)) (now (marks .entry)) count (now (chart .exit)) (now (marks .exit)) r ⌝ }
+{
+    let mut y = from;
+    let mut now = count;
+    while y < to {
+        now = give_one(chart, marks, index, z, c, s, g, y, now);
+        if z.room < now {
+            return now;
+        }
+        y += 1;
+    }
+    now
+}
+
+// Take: one dependent is enough, whatever it is.
+fn take_one(
+    chart: &mut [u8],
+    marks: &mut [u8],
+    z: Sizes,
+    c: Cell,
+    s: Side,
+    f: Foot,
+    from: usize,
+    to: usize,
+    count: usize,
+) -> usize
+    requires { ⌜ Working (z .words) (z .symbols) (z .room) (c .left) (c .from) (c .to) (now chart) (now marks) count × (to ≤ z .base) × (z .base ≤ count) × FootFits (z .words) (z .symbols) (footFrom f) ⌝ }
+    ensures { λ r. ⌜ Added (z .words) (z .symbols) (z .room) (c .left) (c .from) (c .to) (takenFrom (c .left) (c .from) (c .to) (s .production) (s .position) (footFrom f) (counted from (to - from))) (now (chart .entry)) (now (marks .entry)) count (now (chart .exit)) (now (marks .exit)) r ⌝ }
+{
+    if to <= from {
+        return count;
+    }
+    let step = Step {
+        production: s.production,
+        side: s.position,
+        dependent: from as u16,
+        continuation: NOWHERE,
+    };
+    records::add::add(chart, marks, z, c, f, step, count)
+}
+
+// A nonterminal over a stretch: a side or a dependent.
+pub struct Element {
+    pub symbol: u8,
+    pub from: u8,
+    pub to: u8,
+}
+
+fn by_action(
+    chart: &mut [u8],
+    marks: &mut [u8],
+    index: &[u16],
+    z: Sizes,
+    c: Cell,
+    s: Side,
+    a: Action,
+    d: Element,
+    count: usize,
+) -> usize
+    requires { ⌜ Working (z .words) (z .symbols) (z .room) (c .left) (c .from) (c .to) (now chart) (now marks) count × (z .base ≤ count) × Indexed (z .words) (z .symbols) (chartIn (now chart) (z .base)) (now index) × ActionFits (actionFrom a) × SpanFits (z .words) (z .symbols) (d .symbol) (d .from) (d .to) ⌝ }
+    ensures { λ r. ⌜ Added (z .words) (z .symbols) (z .room) (c .left) (c .from) (c .to) (byAction (chartIn (now (chart .entry)) (z .base)) (actionFrom a) (d .symbol) (d .from) (d .to) (c .left) (c .from) (c .to) (s .production) (s .position)) (now (chart .entry)) (now (marks .entry)) count (now (chart .exit)) (now (marks .exit)) r ⌝ }
+{
+    let at = records::index::cell_at(z.words, z.symbols, wide(d.symbol), wide(d.from), wide(d.to));
+    let r = records::index::range_of(index, at, z.base);
+    match a {
+        Action::Take(g) => {
+            let f = Foot {
+                index: g,
+                symbol: d.symbol,
+                from: d.from,
+                to: d.to,
+            };
+            take_one(chart, marks, z, c, s, f, r.from, r.to, count)
+        }
+        Action::Keep => keep_each(chart, marks, z, c, s, r.from, r.to, count),
+        Action::Give(g) => give_each(chart, marks, index, z, c, s, g, r.from, r.to, count),
+    }
+}
+
+// The side's bare item over its stretch, if there is one, and then the action.
+fn with_side(
+    chart: &mut [u8],
+    marks: &mut [u8],
+    index: &[u16],
+    z: Sizes,
+    c: Cell,
+    p: u8,
+    side: Element,
+    a: Action,
+    d: Element,
+    count: usize,
+) -> usize
+    requires { ⌜ Working (z .words) (z .symbols) (z .room) (c .left) (c .from) (c .to) (now chart) (now marks) count × (z .base ≤ count) × Indexed (z .words) (z .symbols) (chartIn (now chart) (z .base)) (now index) × ActionFits (actionFrom a) × SpanFits (z .words) (z .symbols) (d .symbol) (d .from) (d .to) × SpanFits (z .words) (z .symbols) (side .symbol) (side .from) (side .to) ⌝ }
+    ensures { λ r. ⌜ Added (z .words) (z .symbols) (z .room) (c .left) (c .from) (c .to) (concatMap (byAction (chartIn (now (chart .entry)) (z .base)) (actionFrom a) (d .symbol) (d .from) (d .to) (c .left) (c .from) (c .to) p) (barePlaces (chartIn (now (chart .entry)) (z .base)) (side .symbol) (side .from) (side .to))) (now (chart .entry)) (now (marks .entry)) count (now (chart .exit)) (now (marks .exit)) r ⌝ }
+{
+    let at = records::index::cell_at(
+        z.words,
+        z.symbols,
+        wide(side.symbol),
+        wide(side.from),
+        wide(side.to),
+    );
+    let r = records::index::range_of(index, at, z.base);
+    let bare = r.bare;
+    if bare == 0 {
+        return count;
+    }
+    let s = Side {
+        production: p,
+        position: (bare - 1) as u16,
+    };
+    by_action(chart, marks, index, z, c, s, a, d, count)
+}
+
+pub fn by_production(
+    chart: &mut [u8],
+    marks: &mut [u8],
+    index: &[u16],
+    z: Sizes,
+    c: Cell,
+    k: u8,
+    p: u8,
+    rule: Production,
+    count: usize,
+) -> usize
+    requires { ⌜ Working (z .words) (z .symbols) (z .room) (c .left) (c .from) (c .to) (now chart) (now marks) count × (z .base ≤ count) × Indexed (z .words) (z .symbols) (chartIn (now chart) (z .base)) (now index) × RuleFits (z .symbols) (ruleFrom rule) × (c .from < k) × (k < c .to) × (c .to ≤ z .words) ⌝ }
+    ensures { λ r. ⌜ Added (z .words) (z .symbols) (z .room) (c .left) (c .from) (c .to) (byRule (chartIn (now (chart .entry)) (z .base)) (c .left) (c .from) k (c .to) p (ruleFrom rule)) (now (chart .entry)) (now (marks .entry)) count (now (chart .exit)) (now (marks .exit)) r ⌝ }
+{
+    match rule {
+        Production::Word { left: _, word: _ } => count,
+        Production::SideFirst {
+            left,
+            action,
+            side,
+            dependent,
+        } => {
+            if left != c.left {
+                return count;
+            }
+            let first = Element {
+                symbol: side,
+                from: c.from,
+                to: k,
+            };
+            let d = Element {
+                symbol: dependent,
+                from: k,
+                to: c.to,
+            };
+            with_side(chart, marks, index, z, c, p, first, action, d, count)
+        }
+        Production::SideLast {
+            left,
+            action,
+            dependent,
+            side,
+        } => {
+            if left != c.left {
+                return count;
+            }
+            let last = Element {
+                symbol: side,
+                from: k,
+                to: c.to,
+            };
+            let d = Element {
+                symbol: dependent,
+                from: c.from,
+                to: k,
+            };
+            with_side(chart, marks, index, z, c, p, last, action, d, count)
+        }
+    }
+}
