@@ -1,0 +1,5 @@
+pub mod Appending
+pub mod Decimal
+pub mod Rows
+pub mod LineLaws
+pub mod Examples

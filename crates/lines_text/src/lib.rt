@@ -1,0 +1,3 @@
+// The texts of the program `lines`: the lines of its input, and what it prints.
+pub mod split;
+pub mod text;

@@ -1,0 +1,199 @@
+/*
+ * Each call at its limits: the answers, and what the rooms hold afterwards.
+ *
+ *     limits CARD
+ *
+ * Meant for the tomato card. The rooms are lent out of the middle of larger areas that are filled
+ * with one byte, so that a byte written outside a room would be seen too.
+ */
+#include <stdio.h>
+#include <string.h>
+
+#include "lig.h"
+
+enum { FILL = 0xA5, MARGIN = 16, AREA = 256 };
+
+static uint8_t card[LIG_MOST_CARD_BYTES];
+static size_t card_length;
+static uint8_t chart_area[AREA];
+static uint8_t plan_area[AREA];
+static uint8_t pair_area[AREA];
+
+static const uint8_t *bytes_of(const char *text)
+{
+    return (const uint8_t *)text;
+}
+
+static int all_are(const uint8_t *bytes, size_t count, uint8_t value)
+{
+    while (count > 0 && bytes[count - 1] == value)
+        count--;
+    return count == 0;
+}
+
+/* What has become of a room of this length in the middle of its area. */
+static void print_room(const char *name, const uint8_t *area, size_t length)
+{
+    const uint8_t *room = area + MARGIN;
+    size_t written = length;
+    while (written > 0 && room[written - 1] == FILL)
+        written--;
+    printf(", %s room ", name);
+    if (!all_are(area, MARGIN, FILL) || !all_are(room + length, AREA - MARGIN - length, FILL))
+        printf("OVERRUN");
+    else if (written == 0)
+        printf("untouched");
+    else if (all_are(room, length, 0))
+        printf("zero");
+    else
+        printf("%zu of %zu bytes written", written, length);
+}
+
+static uint64_t try_read(const char *line, size_t chart_length, size_t plan_length)
+{
+    memset(chart_area, FILL, sizeof chart_area);
+    memset(plan_area, FILL, sizeof plan_area);
+    uint64_t answer = lig_read(card, card_length, bytes_of(line), strlen(line),
+                               chart_area + MARGIN, chart_length, plan_area + MARGIN, plan_length);
+    printf("read \"%s\", %zu, %zu: %u, %zu words, %zu items, %zu steps", line, chart_length,
+           plan_length, lig_number(answer), lig_words(answer), lig_items(answer),
+           lig_steps(answer));
+    print_room("chart", chart_area, chart_length);
+    print_room("plan", plan_area, plan_length);
+    printf("\n");
+    return answer;
+}
+
+static void read_limits(void)
+{
+    try_read("", 80, 20);
+    try_read("coir takes Mild", 80, 20);
+    try_read("coir gives mild", 80, 20);
+    try_read("takes", 16, 4);
+    try_read("takes", 15, 4);
+    try_read("takes", 0, 4);
+    try_read("takes", 0, 3);
+    try_read("mild mild", 31, 12);
+    try_read("mild mild", 40, 13);
+    try_read("coir takes mild", 79, 20);
+    try_read("coir takes mild", 80, 19);
+    try_read("coir takes mild", 79, 19);
+    try_read("coir takes mild", 100, 30);
+    try_read("coir takes mild", 80, 20);
+}
+
+/* lig_check and lig_pairs on a copy of the plan that try_read left last, with one byte changed. */
+static void try_plan(const char *line, size_t plan_length, size_t at, uint8_t value,
+                     size_t pairs_length)
+{
+    uint8_t plan[LIG_MOST_PLAN_BYTES];
+    memcpy(plan, plan_area + MARGIN, sizeof plan);
+    plan[at] = value;
+    memset(pair_area, FILL, sizeof pair_area);
+    uint64_t check = lig_check(card, card_length, bytes_of(line), strlen(line), plan, plan_length);
+    uint64_t found = lig_pairs(card, card_length, bytes_of(line), strlen(line), plan, plan_length,
+                               pair_area + MARGIN, pairs_length);
+    printf("plan of %zu bytes, byte %zu is %u, for \"%s\": check %u; pairs %u, count %zu",
+           plan_length, at, value, line, lig_number(check), lig_number(found), lig_count(found));
+    print_room("pair", pair_area, pairs_length);
+    printf("\n");
+}
+
+static void plan_limits(void)
+{
+    try_plan("coir takes mild", 20, 0, 7, 2);
+    try_plan("coir takes mild", 20, 0, 7, 5);
+    try_plan("coir takes mild", 20, 0, 7, 1);
+    try_plan("coir takes mild", 20, 0, 8, 1);
+    try_plan("coir takes mild", 20, 0, 255, 2);
+    try_plan("coir takes mild", 20, 2, 2, 2);
+    try_plan("coir takes mild", 20, 3, 4, 2);
+    try_plan("coir takes mild", 19, 0, 7, 2);
+    try_plan("coir takes mild", 24, 0, 7, 2);
+    try_plan("coir takes mild", 16, 0, 7, 2);
+    try_plan("coir takes mild", 0, 0, 7, 0);
+    try_plan("coir takes rich", 20, 0, 7, 2);
+    try_plan("coir takes", 20, 0, 7, 2);
+    try_plan("coir gives mild", 20, 0, 8, 2);
+    try_plan("", 20, 0, 8, 2);
+}
+
+static void try_name(size_t word)
+{
+    uint64_t answer = lig_name(card, card_length, word);
+    printf("name %zu: %u, offset %zu, length %zu, \"%.*s\"\n", word, lig_number(answer),
+           lig_offset(answer), lig_length(answer), (int)lig_length(answer),
+           (const char *)card + lig_offset(answer));
+}
+
+/*
+ * All five calls on a card that is cut to a length and has one byte changed. The line, the plan and
+ * the word's number are wrong too, but the card's refusal comes first.
+ */
+static void try_card(size_t length, size_t at, uint8_t value)
+{
+    const uint8_t *bad = bytes_of("Takes");
+    uint8_t right = card[at];
+    card[at] = value;
+    memset(chart_area, FILL, sizeof chart_area);
+    memset(plan_area, FILL, sizeof plan_area);
+    memset(pair_area, FILL, sizeof pair_area);
+    uint64_t read = lig_read(card, length, bad, 5, chart_area + MARGIN, 16, plan_area + MARGIN, 3);
+    uint64_t found = lig_pairs(card, length, bad, 5, bad, 5, pair_area + MARGIN, 2);
+    printf("card of %zu bytes, byte %zu is %u: card %u, read %u, check %u, pairs %u, name %u",
+           length, at, value, lig_number(lig_card_check(card, length)), lig_number(read),
+           lig_number(lig_check(card, length, bad, 5, bad, 5)), lig_number(found),
+           lig_number(lig_name(card, length, SIZE_MAX)));
+    print_room("chart", chart_area, 16);
+    print_room("plan", plan_area, 3);
+    print_room("pair", pair_area, 2);
+    printf("\n");
+    card[at] = right;
+}
+
+static void card_limits(void)
+{
+    try_card(138, 0, 'L');
+    try_card(0, 0, 'L');
+    try_card(11, 0, 'L');
+    try_card(138, 3, '2');
+    try_card(138, 5, 33);
+    try_card(12, 0, 'L');
+    try_card(137, 0, 'L');
+    try_card(139, 0, 'L');
+    try_card(138, 8, 13);
+    try_card(138, 12, 0);
+    try_card(138, 13, 'C');
+    try_card(138, 71, 1);
+    try_card(138, 72, 7);
+    try_card(138, 137, 1);
+}
+
+/* The second word becomes the first one's twin; 14 is looked for before 15, and 15 before 16. */
+static void same_words(void)
+{
+    memcpy(card + 24, card + 12, 12);
+    try_card(138, 0, 'L');
+    try_card(138, 71, 1);
+    try_card(138, 137, 1);
+}
+
+int main(int argc, char **argv)
+{
+    FILE *file = argc == 2 ? fopen(argv[1], "rb") : NULL;
+    if (file == NULL) {
+        fprintf(stderr, "limits: wants the name of a card that can be read\n");
+        return 2;
+    }
+    card_length = fread(card, 1, sizeof card, file);
+    if (fclose(file) != 0)
+        return 2;
+    read_limits();
+    plan_limits();
+    for (size_t word = 0; word <= 5; word++)
+        try_name(word);
+    try_name(SIZE_MAX);
+    card_limits();
+    same_words();
+    return fflush(stdout) == 0 && !ferror(stdout) ? 0 : 2;
+}

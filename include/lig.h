@@ -1,0 +1,273 @@
+/*
+ * lig.h: the five calls of Figalonga, the order reader, for C99 and C++ on x86-64 with the System V
+ * calling convention.
+ *
+ * A card holds a nursery's words and the rules by which they make orders. A line is what a shift
+ * leader types. A plan is a derivation of the line, step by step. Its pairs are the places in the
+ * line that belong together: from them a controller sets its registers.
+ *
+ *     lig_card_check   Is this a card?
+ *     lig_read         Is this line an order under the card? Writes its chart and its plan.
+ *     lig_check        Is this plan a derivation of this line?
+ *     lig_pairs        Which places does this plan pair? Writes them.
+ *     lig_name         Where does the card spell this word?
+ *
+ * Link with liblig.a. Of the C library it wants memcpy and memset, and nothing else.
+ *
+ * What the calls ask of you; nothing on their side can see to it:
+ *
+ *   - A pointer points to at least as many bytes as the length after it says. They need no
+ *     alignment. Those of a room can be written.
+ *   - No pointer is null, not even beside a length of 0.
+ *   - A room, which is a parameter that is not const, overlaps nothing else that you lend to the
+ *     same call. Inputs, which are const, may overlap one another.
+ *   - While a call runs, nothing else writes to what you lent it or reads its rooms: no thread, no
+ *     interrupt, no device.
+ *   - The stack has the bytes that "Stack", at the end, speaks of.
+ *
+ * Nothing more is asked. A card, a line and a plan may hold any bytes and have any length, and a
+ * room may be too short or empty: each call then says so by a number.
+ *
+ * What each call keeps to: it uses no heap and no lock, has no state, does no input or output, and
+ * keeps no pointer after it has returned. So calls may run at the same time, each with rooms of its
+ * own, and equal inputs with rooms of equal length always get the same answer.
+ *
+ * What is said below of answers and rooms is proved, for every input; docs/MAP.md says where.
+ */
+#ifndef LIG_H
+#define LIG_H
+
+#include <stddef.h>
+#include <stdint.h>
+
+#ifdef __cplusplus
+extern "C" {
+#endif
+
+/*
+ * Refusals
+ *
+ * The number 0 says that the call did what it is for. Any other number is a refusal, and its tens
+ * say who can mend the matter. Where several conditions hold at once, the first one in the order
+ * given at each call is answered.
+ */
+#define LIG_OK 0
+
+/* The nursery that wrote the card. They are tried in this order, each over the whole card. */
+#define LIG_CARD_MARK 11       /* fewer than 12 bytes, or they do not start with "LIG1" */
+#define LIG_CARD_COUNTS 12     /* a count of the header is outside its limits */
+#define LIG_CARD_LENGTHS 13    /* a table's offset or the card's length does not fit the counts */
+#define LIG_CARD_ENTRY 14      /* a word's entry: its length, a letter or its padding is wrong */
+#define LIG_CARD_SAME_WORD 15  /* two entries are the same word */
+#define LIG_CARD_PRODUCTION 16 /* a production has a wrong kind, name, word, index or zero */
+
+/* The shift leader who typed the line. They are tried in this order, NO_READING last of all. */
+#define LIG_LINE_BYTE 22       /* a byte that is not a to z, 0 to 9 or a space */
+#define LIG_LINE_EMPTY 21      /* no word */
+#define LIG_LINE_LONG 23       /* more than LIG_MOST_WORDS words */
+#define LIG_LINE_WORD 24       /* a word that is not on the card */
+#define LIG_LINE_NO_READING 25 /* the words are known, and no derivation comes to them */
+
+/* The programmer of the controller. */
+#define LIG_CHART_ROOM 31  /* more items than the chart room holds */
+#define LIG_PLAN_ROOM 32   /* the plan room is under LIG_PLAN_BYTES(words) bytes */
+#define LIG_PAIR_ROOM 33   /* the pair room is under LIG_PAIR_BYTES bytes for each pair */
+#define LIG_WRONG_PLAN 34  /* the plan is no leftmost derivation of the line */
+#define LIG_WORD_NUMBER 35 /* the card has no word of that number */
+
+/* Who can mend a refusal: its number / 10. */
+#define LIG_BY_NURSERY 1
+#define LIG_BY_SHIFT_LEADER 2
+#define LIG_BY_PROGRAMMER 3
+
+/*
+ * Sizes
+ *
+ * A plan of n words has 2n - 1 steps: one for each word, and n - 1 that split a stretch in two. A
+ * pair takes two of those n - 1, one step that gives an index and one that takes it away, so there
+ * are at most (n - 1) / 2 pairs: 11 for 24 words.
+ */
+#define LIG_MOST_CARD_BYTES 780 /* no longer card is accepted */
+#define LIG_MOST_WORDS 24       /* in a line */
+
+#define LIG_STEP_BYTES 4
+#define LIG_PLAN_BYTES(words) (LIG_STEP_BYTES * (2 * (words) - 1)) /* words: 1 or more */
+#define LIG_MOST_PLAN_BYTES 188                                    /* enough for any line */
+
+#define LIG_PAIR_BYTES 2
+#define LIG_MOST_PAIRS 11
+#define LIG_MOST_PAIR_BYTES 22 /* enough for any plan */
+
+#define LIG_RECORD_BYTES 16
+#define LIG_MOST_ITEMS 65535         /* in a chart, however long its room is */
+#define LIG_MOST_CHART_BYTES 1048560 /* room for all of them; a longer room serves no better */
+
+/*
+ * The parts of an answer, 16 bits each from the low end: the number first, for every call, and then
+ * what belongs to the one call that is named. Bits that no part uses are 0.
+ */
+static inline unsigned lig_number(uint64_t answer)
+{
+    return answer & 0xFFFFu;
+}
+
+/* Of lig_read: words of the line, items of the chart, steps of the plan. */
+static inline size_t lig_words(uint64_t answer)
+{
+    return answer >> 16 & 0xFFFFu;
+}
+
+static inline size_t lig_items(uint64_t answer)
+{
+    return answer >> 32 & 0xFFFFu;
+}
+
+static inline size_t lig_steps(uint64_t answer)
+{
+    return answer >> 48 & 0xFFFFu;
+}
+
+/* Of lig_pairs: how many pairs. */
+static inline size_t lig_count(uint64_t answer)
+{
+    return answer >> 16 & 0xFFFFu;
+}
+
+/* Of lig_name: where the spelling starts in the card, and its length. */
+static inline size_t lig_offset(uint64_t answer)
+{
+    return answer >> 16 & 0xFFFFu;
+}
+
+static inline size_t lig_length(uint64_t answer)
+{
+    return answer >> 32 & 0xFFFFu;
+}
+
+/*
+ * lig_card_check: is this a card?
+ *
+ * Answers LIG_OK, or the first of 11, 12, 13, 14, 15, 16 whose condition holds. No part beside the
+ * number. The other four calls make this check themselves, before anything else.
+ */
+uint64_t lig_card_check(const uint8_t *card, size_t card_length);
+
+/*
+ * lig_read: is this line an order under the card?
+ *
+ * Refusals, in this order: the card's 11 to 16; the line's 22, 21, 23, 24; the rooms' 32, 31; then
+ * 25. The parts of the answer and the rooms afterwards:
+ *
+ *     number      words   items   steps        chart room            plan room
+ *     LIG_OK      n       all     2n - 1       the chart             the plan
+ *     25          n       all     0            the chart             untouched
+ *     31          0       0       0            zero in every byte    untouched
+ *     any other   0       0       0            untouched             untouched
+ *
+ * LIG_OK is answered only with a derivation of the line. 25 is answered only where there is none.
+ * A known line that has one is read whenever both rooms are long enough.
+ *
+ * Items counts the derivable items of the line, all of them, also with 25. A chart room of L bytes
+ * holds L / 16 items, rounded down, and never more than 65,535; 31 says that there are more.
+ *
+ * The chart is one record of 16 bytes for each derivable item, each item once:
+ *
+ *     byte 0       nonterminal A              byte 7        production of the recorded step
+ *     byte 1       index, 0 for none          bytes 8-9     position of its side
+ *     bytes 2, 3   stretch: from, to          bytes 10-11   position of its dependent
+ *     byte 4       B, 255 for none            bytes 12-13   position of its continuation
+ *     bytes 5, 6   stretch of B, 0 for none   bytes 14-15   zero
+ *
+ * An item without an index: A with an empty stack comes to the words of its stretch. An item with
+ * one: A with that index on top of its stack does, and going down from A, B over its own stretch is
+ * where the index is gone first. A position counts records from 0 and has its low byte first; 65535
+ * stands for none, which is so three times for a word, and for a continuation unless the step gives
+ * an index.
+ *
+ * The plan is steps of four bytes, each replacing the leftmost nonterminal: production, from,
+ * split, to. The nonterminal comes to the words between from and to, and the first element of the
+ * production to those up to split; a word's step has split = to.
+ *
+ * The bytes of a room past its chart or plan are untouched.
+ *
+ * Free, so rely on no more than is said here:
+ *   - the order of the records; each stands after those that it names
+ *   - which step a record holds where several derive its item; it is one that does
+ *   - which item of its dependent's stretch a taking step names; a plan need not go on there
+ *   - which derivation the plan is where the line has several; lig_check passes it for this card
+ *     and this line
+ */
+uint64_t lig_read(const uint8_t *card, size_t card_length,
+                  const uint8_t *line, size_t line_length,
+                  uint8_t *chart, size_t chart_length,
+                  uint8_t *plan, size_t plan_length);
+
+/*
+ * lig_check: is this plan a derivation of this line?
+ *
+ * The plan is all plan_length bytes: pass LIG_STEP_BYTES * steps, not the length of its room. It
+ * may come from anywhere. Answers LIG_OK exactly where its steps in their order, each replacing the
+ * leftmost nonterminal, derive the line and every from, split and to is right. Else the first of:
+ * the card's 11 to 16; the line's 22, 21, 23, 24; 34. No part beside the number.
+ */
+uint64_t lig_check(const uint8_t *card, size_t card_length,
+                   const uint8_t *line, size_t line_length,
+                   const uint8_t *plan, size_t plan_length);
+
+/*
+ * lig_pairs: which places does this plan pair?
+ *
+ * Refusals, in this order: those of lig_check, for the same bytes; then 33. With LIG_OK the answer
+ * has the count, and the pair room starts with that many pairs; its further bytes are untouched.
+ * With a refusal the count is 0 and the room is untouched.
+ *
+ * There is one pair for each step that gives an index, in the order of the plan. Its two bytes are
+ * places in the line, counted from 0: where the side of that step starts, and where the side of the
+ * step starts that takes this very index away. Nothing here is free.
+ */
+uint64_t lig_pairs(const uint8_t *card, size_t card_length,
+                   const uint8_t *line, size_t line_length,
+                   const uint8_t *plan, size_t plan_length,
+                   uint8_t *pairs, size_t pairs_length);
+
+/*
+ * lig_name: where does the card spell this word?
+ *
+ * The word is given by its number, which counts the words of the card from 0. For the word at a
+ * place of a line, examples/controller.c shows how its number is found in the plan.
+ *
+ * Refusals, in this order: the card's 11 to 16; then 35, for a number that is not below the card's
+ * count of words. With LIG_OK the spelling is lig_length bytes, 1 to 11, from card + lig_offset on:
+ * the card's own bytes, with no zero behind them to rely on. With a refusal both parts are 0.
+ */
+uint64_t lig_name(const uint8_t *card, size_t card_length, size_t word);
+
+/*
+ * Stack
+ *
+ * Bytes of stack that each call wants, measured and not proved. tools/stack-use runs the calls on a
+ * painted stack, for many cards and lines of every length. The most that it saw, the return address
+ * and the arguments on the stack included:
+ *
+ *     line of        1 to 6 words   7 to 12 words   13 to 24 words
+ *     lig_card_check     120             120             120
+ *     lig_read        76,648          78,624          83,424
+ *     lig_check          968             968             968
+ *     lig_pairs        1,048           1,048           1,048
+ *     lig_name           136             136             136
+ *
+ * lig_read takes 73,832 of them at once, for every line, also for one that it refuses. The figures
+ * below have at least 128 bytes to spare, as much as a function may use below the stack pointer.
+ * Interrupts that run on the same stack come on top.
+ */
+#define LIG_STACK_CARD_CHECK 256
+#define LIG_STACK_READ 83712
+#define LIG_STACK_CHECK 1280
+#define LIG_STACK_PAIRS 1280
+#define LIG_STACK_NAME 512
+
+#ifdef __cplusplus
+}
+#endif
+
+#endif
