@@ -1,0 +1,227 @@
+//! Cards drawn at random.
+
+use independent::random::Random;
+use independent::write::{CardText, tomato};
+
+/// What is drawn for one card.
+struct Counts {
+    nonterminals: usize,
+    words: usize,
+    indices: usize,
+    productions: usize,
+}
+
+/// Dense cards make many items: their lines are kept short more often than not.
+pub struct Drawn {
+    pub text: CardText,
+    pub dense: bool,
+}
+
+pub fn draw(random: &mut Random) -> Drawn {
+    let dense = random.once_in(12);
+    let text = if dense {
+        crowded(random)
+    } else {
+        match random.below(8) {
+            0 => scattered(random, any_counts),
+            1 => scattered(random, extreme_counts),
+            2 => derivable(random, any_counts),
+            3 => derivable(random, extreme_counts),
+            4 | 5 => derivable(random, small_counts),
+            6 => ambiguous(random),
+            _ => crossing(random),
+        }
+    };
+    Drawn { text, dense }
+}
+
+fn any_counts(random: &mut Random) -> Counts {
+    Counts {
+        nonterminals: random.between(1, 16),
+        words: random.between(1, 32),
+        indices: random.between(0, 8),
+        productions: random.between(1, 64),
+    }
+}
+
+/// Each count least, greatest, or one off that.
+fn extreme_counts(random: &mut Random) -> Counts {
+    Counts {
+        nonterminals: *random.pick(&[1, 2, 15, 16, 16]),
+        words: *random.pick(&[1, 2, 31, 32, 32]),
+        indices: *random.pick(&[0, 1, 7, 8, 8]),
+        productions: *random.pick(&[1, 2, 63, 64, 64]),
+    }
+}
+
+fn small_counts(random: &mut Random) -> Counts {
+    Counts {
+        nonterminals: random.between(1, 4),
+        words: random.between(1, 4),
+        indices: random.between(0, 3),
+        productions: random.between(6, 30),
+    }
+}
+
+/// Productions drawn with no plan at all; few lines are read under such a card.
+fn scattered(random: &mut Random, counts: fn(&mut Random) -> Counts) -> CardText {
+    let counts = counts(random);
+    let productions = (0..counts.productions)
+        .map(|_| {
+            if random.once_in(3) {
+                word_production(random, &counts)
+            } else {
+                pair_production(random, &counts)
+            }
+        })
+        .collect();
+    text(random, &counts, productions)
+}
+
+/// Every nonterminal makes a word and can take an index, as far as the productions go; the others
+/// are drawn. Most derivations that are begun under such a card can be ended.
+fn derivable(random: &mut Random, counts: fn(&mut Random) -> Counts) -> CardText {
+    let counts = counts(random);
+    let mut productions = Vec::new();
+    for nonterminal in 0..counts.nonterminals {
+        let word = random.below(counts.words);
+        productions.push([0, nonterminal as u8, word as u8, 0, 0, 0]);
+        if counts.indices > 0 {
+            let mut take = indexed_production(random, &counts, 1);
+            take[1] = nonterminal as u8;
+            productions.push(take);
+        }
+    }
+    while productions.len() < counts.productions {
+        productions.push(pair_production(random, &counts));
+        if random.once_in(5) {
+            productions.push(word_production(random, &counts));
+        }
+        if random.once_in(4) {
+            let twin = twin(random, &productions, &counts);
+            productions.push(twin);
+        }
+    }
+    productions.truncate(counts.productions);
+    text(random, &counts, productions)
+}
+
+/// A production that another one equals, or equals but for the index. Both are allowed.
+fn twin(random: &mut Random, productions: &[[u8; 6]], counts: &Counts) -> [u8; 6] {
+    let mut twin = *random.pick(productions);
+    if twin[4] != 0 {
+        twin[4] = random.between(1, counts.indices) as u8;
+    }
+    twin
+}
+
+/// Few nonterminals and productions of all kinds: most stretches are read in many ways.
+fn ambiguous(random: &mut Random) -> CardText {
+    let counts = Counts {
+        nonterminals: random.between(1, 2),
+        words: random.between(1, 2),
+        indices: random.between(0, 2),
+        productions: random.between(8, 24),
+    };
+    let mut productions = vec![[0, 0, 0, 0, 0, 0]];
+    for kind in 1..=6 {
+        if counts.indices > 0 || matches!(kind, 3 | 4) {
+            productions.push(production_of_kind(random, &counts, kind));
+        }
+    }
+    while productions.len() < counts.productions {
+        productions.push(pair_production(random, &counts));
+    }
+    text(random, &counts, productions)
+}
+
+/// Many productions over few nonterminals: many items.
+fn crowded(random: &mut Random) -> CardText {
+    let counts = Counts {
+        nonterminals: random.between(3, 7),
+        words: random.between(1, 3),
+        indices: random.between(1, 8),
+        productions: random.between(48, 64),
+    };
+    let mut productions: Vec<[u8; 6]> = (0..2 * counts.nonterminals)
+        .map(|_| word_production(random, &counts))
+        .collect();
+    while productions.len() < counts.productions {
+        productions.push(pair_production(random, &counts));
+    }
+    text(random, &counts, productions)
+}
+
+/// The tomato card with other spellings and some productions more or fewer.
+fn crossing(random: &mut Random) -> CardText {
+    let mut card = tomato();
+    card.words = spellings(random, card.words.len());
+    let counts = Counts {
+        nonterminals: 6,
+        words: 5,
+        indices: 2,
+        productions: 11,
+    };
+    for _ in 0..random.below(4) {
+        card.productions.push(pair_production(random, &counts));
+    }
+    if random.once_in(4) {
+        card.productions
+            .remove(random.below(card.productions.len()));
+    }
+    card
+}
+
+fn word_production(random: &mut Random, counts: &Counts) -> [u8; 6] {
+    let head = random.below(counts.nonterminals) as u8;
+    [0, head, random.below(counts.words) as u8, 0, 0, 0]
+}
+
+fn pair_production(random: &mut Random, counts: &Counts) -> [u8; 6] {
+    let kind = if counts.indices == 0 {
+        random.between(3, 4)
+    } else {
+        random.between(1, 6)
+    };
+    production_of_kind(random, counts, kind as u8)
+}
+
+/// Kind `kind` or the one after it, which need an index.
+fn indexed_production(random: &mut Random, counts: &Counts, kind: u8) -> [u8; 6] {
+    let mirrored = random.below(2) as u8;
+    production_of_kind(random, counts, kind + mirrored)
+}
+
+fn production_of_kind(random: &mut Random, counts: &Counts, kind: u8) -> [u8; 6] {
+    let index = match kind {
+        3 | 4 => 0,
+        _ => random.between(1, counts.indices) as u8,
+    };
+    let [a, b, c] = [(); 3].map(|()| random.below(counts.nonterminals) as u8);
+    [kind, a, b, c, index, 0]
+}
+
+fn text(random: &mut Random, counts: &Counts, productions: Vec<[u8; 6]>) -> CardText {
+    CardText {
+        nonterminals: counts.nonterminals as u8,
+        indices: counts.indices as u8,
+        words: spellings(random, counts.words),
+        productions,
+    }
+}
+
+/// Distinct spellings, many of them the beginning of another.
+fn spellings(random: &mut Random, count: usize) -> Vec<String> {
+    let letters = *random.pick(&["ab", "abcxyz019", "az09"]);
+    let mut list: Vec<String> = Vec::new();
+    while list.len() < count {
+        let length = *random.pick(&[1, 2, 3, 4, 5, 6, 7, 8, 9, 10, 11, 11]);
+        let spelling: String = (0..length)
+            .map(|_| char::from(*random.pick(letters.as_bytes())))
+            .collect();
+        if !list.contains(&spelling) {
+            list.push(spelling);
+        }
+    }
+    list
+}

@@ -1,0 +1,303 @@
+//! All comparisons that one card and one line allow.
+
+use crate::calls::{BOTH, Calls, ChartParser};
+use crate::damage;
+use crate::expected::{Input, Items, Scratch};
+use crate::room::Room;
+use crate::tally::Tally;
+use crate::verify;
+use independent::closure;
+use independent::item::Item;
+use independent::random::Random;
+use independent::rewriting;
+use std::fmt;
+
+/// The bytes that show a disagreement again.
+pub struct Disagreement {
+    pub who: &'static str,
+    pub what: String,
+    pub card: Vec<u8>,
+    pub line: Vec<u8>,
+    pub plan: Vec<u8>,
+    /// Chart, plan and pair room, where lent.
+    pub rooms: [Option<usize>; 3],
+}
+
+impl fmt::Display for Disagreement {
+    fn fmt(&self, f: &mut fmt::Formatter) -> fmt::Result {
+        writeln!(f, "{}: {}", self.who, self.what)?;
+        for (name, bytes) in [
+            ("card", &self.card),
+            ("line", &self.line),
+            ("plan", &self.plan),
+        ] {
+            let hex: Vec<String> = bytes.iter().map(|byte| format!("{byte:02x}")).collect();
+            writeln!(f, "{name} {}", hex.join(""))?;
+        }
+        for (name, length) in ["chart", "plan", "pair"].iter().zip(self.rooms) {
+            if let Some(length) = length {
+                writeln!(f, "{name} room {length}")?;
+            }
+        }
+        Ok(())
+    }
+}
+
+/// How much is done for one input.
+pub struct Effort {
+    /// Room lengths beside the one that suffices.
+    pub other_rooms: usize,
+    pub damaged_plans: usize,
+    /// Trials of a production that the rewriting recognizer may make.
+    pub recognizer_work: usize,
+    /// Most items for which the naive closure is made.
+    pub closure_items: usize,
+}
+
+pub struct Comparison<'a> {
+    pub random: &'a mut Random,
+    pub scratch: &'a mut Scratch,
+    pub tally: &'a mut Tally,
+    pub effort: &'a Effort,
+}
+
+type Outcome = Result<(), Box<Disagreement>>;
+
+/// Puts a verdict together with the bytes it is about.
+fn blame(
+    calls: &dyn Calls,
+    input: &Input,
+    plan: &[u8],
+    rooms: [Option<usize>; 3],
+    verdict: verify::Verdict,
+) -> Outcome {
+    verdict.map_err(|what| {
+        Box::new(Disagreement {
+            who: calls.who(),
+            what,
+            card: input.card_bytes.to_vec(),
+            line: input.line_bytes.to_vec(),
+            plan: plan.to_vec(),
+            rooms,
+        })
+    })
+}
+
+impl Comparison<'_> {
+    pub fn run(&mut self, card: &[u8], line: &[u8]) -> Outcome {
+        let input = Input::new(card, line);
+        self.card(&input)?;
+        if input.accepted().is_some() {
+            self.accepted(&input)
+        } else {
+            self.refused(&input)
+        }
+    }
+
+    /// The card check, and Name for every word and for numbers that no word has.
+    fn card(&mut self, input: &Input) -> Outcome {
+        if let Err(number) = input.card {
+            self.tally.number(number);
+        } else {
+            self.tally.number(35);
+        }
+        let words = input.card.as_ref().map_or(3, |card| card.words.len());
+        let beyond = [
+            words,
+            words + 1,
+            255,
+            256,
+            1 << 16,
+            1 << 32,
+            1 << 63,
+            usize::MAX,
+        ];
+        for calls in BOTH {
+            let report = |verdict| blame(calls, input, &[], [None; 3], verdict);
+            report(verify::card_check(calls, input))?;
+            for word in (0..words).chain(beyond) {
+                report(verify::name(calls, input, word))?;
+            }
+        }
+        Ok(())
+    }
+
+    fn refused(&mut self, input: &Input) -> Outcome {
+        let number = input.words.as_ref().err().copied().unwrap_or(0);
+        self.tally.number(number);
+        let mut chart = Room::new(self.random.below(200), self.random);
+        let mut plan = Room::new(self.random.below(200), self.random);
+        for calls in BOTH {
+            let rooms = [Some(chart.length()), Some(plan.length()), None];
+            let verdict = verify::refused_read(calls, input, &mut chart, &mut plan);
+            blame(calls, input, &[], rooms, verdict)?;
+        }
+        let random_plan = damage::random_plan(self.random, 5, 3);
+        self.plan(input, &random_plan)
+    }
+
+    fn accepted(&mut self, input: &Input) -> Outcome {
+        let items = Items::of(input, self.scratch);
+        match &items.held {
+            None => self.tally.lines_too_large += 1,
+            Some(held) if held.has_reading => self.tally.lines_read += 1,
+            Some(_) => self.tally.lines_not_read += 1,
+        }
+        self.closure(input, &items)?;
+        self.recognizer(input, &items)?;
+        let plans = self.reads(input, &items)?;
+        for plan in &plans {
+            self.plan(input, plan)?;
+        }
+        self.damaged_plans(input, plans.first())
+    }
+
+    /// The item set against the naive closure, where that is affordable.
+    fn closure(&mut self, input: &Input, items: &Items) -> Outcome {
+        let (Some((card, words)), Some(held)) = (input.accepted(), &items.held) else {
+            return Ok(());
+        };
+        let most = self.effort.closure_items;
+        if held.keys.len() > most {
+            return Ok(());
+        }
+        self.tally.charts_closed += 1;
+        let closed = closure::derivable(card, words, most);
+        let mut keys: Vec<u64> = closed
+            .into_iter()
+            .flatten()
+            .map(|item| item_key(&item))
+            .collect();
+        keys.sort_unstable();
+        let verdict = if keys == held.keys {
+            Ok(())
+        } else {
+            Err(format!(
+                "{} items, the closure has {}",
+                held.keys.len(),
+                keys.len()
+            ))
+        };
+        blame(&ChartParser, input, &[], [None; 3], verdict)
+    }
+
+    /// Reading or no reading against the definition of rewriting, where that is affordable.
+    fn recognizer(&mut self, input: &Input, items: &Items) -> Outcome {
+        let (Some((card, words)), Some(held)) = (input.accepted(), &items.held) else {
+            return Ok(());
+        };
+        self.tally.recognizer_asked += 1;
+        let verdict = match rewriting::derives(card, words, self.effort.recognizer_work) {
+            Err(rewriting::TooMuchWork) => {
+                self.tally.recognizer_gave_up += 1;
+                Ok(())
+            }
+            Ok(derives) if derives == held.has_reading => Ok(()),
+            Ok(derives) => Err(format!("reading {}, rewriting {derives}", held.has_reading)),
+        };
+        blame(&ChartParser, input, &[], [None; 3], verdict)
+    }
+
+    /// Read with several room lengths; the plans that came of it.
+    fn reads(&mut self, input: &Input, items: &Items) -> Result<Vec<Vec<u8>>, Box<Disagreement>> {
+        let words = input.accepted().map_or(1, |(_, words)| words.len());
+        let least_plan = 4 * (2 * words - 1);
+        let mut lengths = vec![(
+            16 * items.count() + self.random.below(34),
+            least_plan + self.random.below(10),
+        )];
+        for _ in 0..self.effort.other_rooms {
+            let chart = around(self.random, 16 * items.count(), 16);
+            let plan = match self.random.below(3) {
+                0 => around(self.random, least_plan, 4),
+                _ => least_plan,
+            };
+            lengths.push((chart, plan));
+        }
+        let mut plans: Vec<Vec<u8>> = Vec::new();
+        for (chart, plan) in lengths {
+            let number = items.read_number(words, chart, plan);
+            self.tally.number(number);
+            let mut chart = Room::new(chart, self.random);
+            let mut plan = Room::new(plan, self.random);
+            for calls in BOTH {
+                chart.restore();
+                plan.restore();
+                let rooms = [Some(chart.length()), Some(plan.length()), None];
+                match verify::read(calls, input, items, &mut chart, &mut plan) {
+                    Ok(Some(found)) if !plans.contains(&found) => plans.push(found),
+                    Ok(_) => {}
+                    Err(what) => blame(calls, input, plan.now(), rooms, Err(what))?,
+                }
+            }
+        }
+        Ok(plans)
+    }
+
+    fn damaged_plans(&mut self, input: &Input, plan: Option<&Vec<u8>>) -> Outcome {
+        let Some((card, words)) = input.accepted() else {
+            return Ok(());
+        };
+        for _ in 0..self.effort.damaged_plans {
+            let damaged = match plan {
+                Some(plan) if !self.random.once_in(6) => {
+                    damage::plan(plan, self.random, &card.productions, words.len())
+                }
+                _ => damage::random_plan(self.random, card.productions.len(), words.len()),
+            };
+            self.plan(input, &damaged)?;
+        }
+        Ok(())
+    }
+
+    /// Check and Pairs on one plan.
+    pub fn plan(&mut self, input: &Input, plan: &[u8]) -> Outcome {
+        let replayed = input.replayed(plan).map(|replayed| replayed.pairs);
+        let number = replayed.as_ref().err().copied().unwrap_or(0);
+        self.tally.number(number);
+        self.tally.plans_replayed += u64::from(number == 0);
+        let count = replayed.as_ref().map_or(0, Vec::len);
+        let enough = 2 * count + self.random.below(4);
+        let lengths = [enough, around(self.random, 2 * count, 2)];
+        for calls in BOTH {
+            let verdict = verify::check(calls, input, plan, number);
+            blame(calls, input, plan, [None; 3], verdict)?;
+        }
+        for length in lengths {
+            if number == 0 && length < 2 * count {
+                self.tally.number(33);
+            }
+            let mut room = Room::new(length, self.random);
+            for calls in BOTH {
+                room.restore();
+                let verdict = verify::pairs(calls, input, plan, &replayed, &mut room);
+                blame(calls, input, plan, [None, None, Some(length)], verdict)?;
+            }
+        }
+        Ok(())
+    }
+}
+
+/// A length at, just below, just above or far from a threshold.
+fn around(random: &mut Random, threshold: usize, unit: usize) -> usize {
+    match random.below(10) {
+        0 => 0,
+        1 => random.below(threshold + 1),
+        2 | 3 => threshold.saturating_sub(1),
+        4 => threshold.saturating_sub(unit),
+        5 => threshold.saturating_sub(random.below(2 * unit)),
+        6 => threshold + 1,
+        7 => threshold + unit,
+        8 => threshold + random.below(3 * unit),
+        _ => threshold,
+    }
+}
+
+/// The item's part of a record, as `expected::key` has it.
+pub fn item_key(item: &Item) -> u64 {
+    let (b, p, q) = match item.gone {
+        Some(gone) => (gone.nonterminal, gone.p, gone.q),
+        None => (255, 0, 0),
+    };
+    u64::from_le_bytes([item.nonterminal, item.index, item.i, item.j, b, p, q, 0])
+}

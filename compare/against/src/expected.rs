@@ -1,0 +1,130 @@
+//! What each call has to answer, from the slow implementations. Only the number of items, and
+//! whether the start is among them, come from the independent chart parser, whose charts are
+//! verified in turn.
+
+use independent::card::Card;
+use independent::chart;
+use independent::line;
+use independent::replay::{Replayed, replay};
+
+/// Room for every chart that can be held.
+const FULL_ROOM: usize = 16 * 65_535;
+
+/// A buffer for charts, kept from case to case.
+pub struct Scratch {
+    chart: Vec<u8>,
+}
+
+impl Default for Scratch {
+    fn default() -> Self {
+        Scratch {
+            chart: vec![0; FULL_ROOM],
+        }
+    }
+}
+
+/// Card and line, or why they are refused.
+pub struct Input<'a> {
+    pub card_bytes: &'a [u8],
+    pub line_bytes: &'a [u8],
+    pub card: Result<Card, u16>,
+    /// The words, or the refusal of card or line.
+    pub words: Result<Vec<u8>, u16>,
+}
+
+impl<'a> Input<'a> {
+    pub fn new(card_bytes: &'a [u8], line_bytes: &'a [u8]) -> Self {
+        let card = Card::accept(card_bytes);
+        let words = match &card {
+            Ok(card) => line::words(card, line_bytes),
+            Err(number) => Err(*number),
+        };
+        Input {
+            card_bytes,
+            line_bytes,
+            card,
+            words,
+        }
+    }
+
+    /// Card and words, where both are accepted.
+    pub fn accepted(&self) -> Option<(&Card, &[u8])> {
+        match (&self.card, &self.words) {
+            (Ok(card), Ok(words)) => Some((card, words)),
+            _ => None,
+        }
+    }
+
+    /// Check's number, and the replayed plan if that is 0.
+    pub fn replayed(&self, plan: &[u8]) -> Result<Replayed, u16> {
+        let words = self.words.as_ref().map_err(|number| *number)?;
+        let card = self.card.as_ref().map_err(|number| *number)?;
+        replay(card, words, plan).ok_or(34)
+    }
+}
+
+/// Derivable items of an accepted input.
+pub struct Items {
+    /// None if there are more than any room holds.
+    pub held: Option<Held>,
+}
+
+pub struct Held {
+    /// The seven bytes of each item, in order.
+    pub keys: Vec<u64>,
+    pub has_reading: bool,
+}
+
+/// The item's part of a record.
+pub fn key(record: &[u8; 16]) -> u64 {
+    u128::from_le_bytes(*record) as u64 & 0x00FF_FFFF_FFFF_FFFF
+}
+
+impl Items {
+    pub fn of(input: &Input, scratch: &mut Scratch) -> Self {
+        let mut plan = [0; 188];
+        let answer = chart::read(
+            input.card_bytes,
+            input.line_bytes,
+            &mut scratch.chart,
+            &mut plan,
+        );
+        if answer.number == 31 {
+            return Items { held: None };
+        }
+        let records = scratch.chart.as_chunks::<16>().0;
+        let mut keys: Vec<u64> = records[..usize::from(answer.items)]
+            .iter()
+            .map(key)
+            .collect();
+        keys.sort_unstable();
+        Items {
+            held: Some(Held {
+                keys,
+                has_reading: answer.number == 0,
+            }),
+        }
+    }
+
+    /// How many there are; one more than any room holds if there are too many.
+    pub fn count(&self) -> usize {
+        self.held.as_ref().map_or(65_536, |held| held.keys.len())
+    }
+
+    /// Read's number for these room lengths.
+    pub fn read_number(&self, words: usize, chart_room: usize, plan_room: usize) -> u16 {
+        if plan_room < 4 * (2 * words - 1) {
+            return 32;
+        }
+        match &self.held {
+            Some(held) if held.keys.len() <= chart_room / 16 => {
+                if held.has_reading {
+                    0
+                } else {
+                    25
+                }
+            }
+            _ => 31,
+        }
+    }
+}

@@ -1,0 +1,13 @@
+//! Comparing the library under test, and the independent chart parser, with the slow
+//! implementations.
+
+pub mod calls;
+pub mod cards;
+pub mod compare;
+pub mod damage;
+pub mod edges;
+pub mod expected;
+pub mod lines;
+pub mod room;
+pub mod tally;
+pub mod verify;

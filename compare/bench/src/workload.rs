@@ -1,0 +1,128 @@
+//! Cards and lines to measure with.
+
+use independent::chart;
+use independent::random::Random;
+use independent::write::{CardText, tomato, tomato_line};
+
+pub struct Workload {
+    pub name: String,
+    pub card: Vec<u8>,
+    pub line: Vec<u8>,
+    pub words: usize,
+    pub chart_room: usize,
+}
+
+/// Room for as many items as a chart can have.
+pub const FULL_ROOM: usize = 16 * 65_535;
+
+/// The room for a plan of 24 words, which is also enough for its pairs.
+pub const PLAN_ROOM: usize = 4 * (2 * 24 - 1);
+
+impl Workload {
+    fn new(name: String, card: Vec<u8>, line: Vec<u8>, words: usize) -> Self {
+        Workload {
+            name,
+            card,
+            line,
+            words,
+            chart_room: FULL_ROOM,
+        }
+    }
+}
+
+/// The workloads of the main table.
+pub fn all() -> Vec<Workload> {
+    let mut overflow = dense(60_000);
+    overflow.name += ", room of 4000";
+    overflow.chart_room = 16 * 4_000;
+    vec![
+        tomato_of(1),
+        tomato_of(4),
+        tomato_of(11),
+        ambiguous_of(24),
+        dense(4_000),
+        dense(60_000),
+        overflow,
+    ]
+}
+
+/// A tomato line with as many feeds as materials.
+pub fn tomato_of(materials: usize) -> Workload {
+    let list: Vec<u8> = (0..materials).map(|place| (place % 3 % 2) as u8).collect();
+    let words = 2 * materials + 1;
+    Workload::new(
+        format!("tomato, {words} words"),
+        tomato().bytes(),
+        tomato_line(&list),
+        words,
+    )
+}
+
+/// One nonterminal and one index, under which every stretch is read in every way.
+pub fn ambiguous_of(words: usize) -> Workload {
+    let text = CardText {
+        nonterminals: 1,
+        indices: 1,
+        words: vec!["coir".to_string()],
+        productions: vec![
+            [0, 0, 0, 0, 0, 0],
+            [1, 0, 0, 0, 1, 0],
+            [2, 0, 0, 0, 1, 0],
+            [3, 0, 0, 0, 0, 0],
+            [4, 0, 0, 0, 0, 0],
+            [5, 0, 0, 0, 1, 0],
+            [6, 0, 0, 0, 1, 0],
+        ],
+    };
+    let line = text.line(&vec![0; words]);
+    Workload::new(
+        format!("ambiguous, {words} words"),
+        text.bytes(),
+        line,
+        words,
+    )
+}
+
+/// A card drawn at random with 64 productions, and a line that is read with about so many items.
+/// The number of items is also the seed.
+pub fn dense(items: usize) -> Workload {
+    let mut random = Random::new(items as u64);
+    let mut chart_room = vec![0; FULL_ROOM];
+    loop {
+        let text = dense_card(&mut random);
+        let card = text.bytes();
+        for words in 4..=24 {
+            let numbers: Vec<u8> = (0..words)
+                .map(|_| random.below(text.words.len()) as u8)
+                .collect();
+            let line = text.line(&numbers);
+            let answer = chart::read(&card, &line, &mut chart_room, &mut [0; PLAN_ROOM]);
+            if answer.number == 0 && usize::from(answer.items).abs_diff(items) < items / 20 {
+                return Workload::new(format!("dense, about {items} items"), card, line, words);
+            }
+        }
+    }
+}
+
+/// Eight nonterminals, eight words and four indices; a word is made by two or three nonterminals.
+fn dense_card(random: &mut Random) -> CardText {
+    let (nonterminals, words, indices) = (8, 8, 4);
+    let mut productions: Vec<[u8; 6]> = (0..20)
+        .map(|number| [0, random.below(nonterminals) as u8, number % words, 0, 0, 0])
+        .collect();
+    while productions.len() < 64 {
+        let kind = random.between(1, 6) as u8;
+        let index = match kind {
+            3 | 4 => 0,
+            _ => random.between(1, indices) as u8,
+        };
+        let [a, b, c] = [(); 3].map(|()| random.below(nonterminals) as u8);
+        productions.push([kind, a, b, c, index, 0]);
+    }
+    CardText {
+        nonterminals: nonterminals as u8,
+        indices: indices as u8,
+        words: (0..words).map(|number| format!("word{number}")).collect(),
+        productions,
+    }
+}

@@ -1,0 +1,198 @@
+//! Plans replayed literally: a sentential form is a list of words and of nonterminals with stacks,
+//! and each step replaces the leftmost nonterminal. Stretches are not predicted; they are read
+//! off the words finally reached.
+
+use crate::card::{Action, Card, PairProduction, Place, Production};
+
+/// The step that gave an index tells it from every other one.
+#[derive(Clone, Copy)]
+struct Index {
+    index: u8,
+    given_by: usize,
+}
+
+#[derive(Clone)]
+enum Symbol {
+    Word(u8),
+    /// The top of the stack is the last.
+    Nonterminal(u8, Vec<Index>),
+}
+
+/// A symbol, and the elements it descends from.
+#[derive(Clone)]
+struct Descendant {
+    symbol: Symbol,
+    ancestors: Vec<Element>,
+}
+
+/// The first or second element of the right side that a step put in; a word step has the first
+/// alone.
+#[derive(Clone, Copy, PartialEq, Eq)]
+struct Element {
+    step: usize,
+    place: Place,
+}
+
+/// A plan that was replayed to its end.
+pub struct Replayed {
+    /// Both words of each pair, in the order of the give steps.
+    pub pairs: Vec<[u8; 2]>,
+}
+
+/// None if the plan is not a leftmost derivation of the words.
+pub fn replay(card: &Card, words: &[u8], plan: &[u8]) -> Option<Replayed> {
+    let (steps, rest) = plan.as_chunks::<4>();
+    if !rest.is_empty() {
+        return None;
+    }
+    let mut form = vec![Descendant {
+        symbol: Symbol::Nonterminal(0, Vec::new()),
+        ancestors: Vec::new(),
+    }];
+    // For each give step, the step that took its index.
+    let mut taken_by = vec![None; steps.len()];
+    for (number, &[production, ..]) in steps.iter().enumerate() {
+        let production = card.productions.get(usize::from(production))?;
+        replace_leftmost(&mut form, number, production, &mut taken_by)?;
+    }
+    if !is_line(&form, words) || !stretches_agree(&form, steps) {
+        return None;
+    }
+    let pairs = pairs(card, &form, steps, &taken_by)?;
+    Some(Replayed { pairs })
+}
+
+fn replace_leftmost(
+    form: &mut Vec<Descendant>,
+    step: usize,
+    production: &Production,
+    taken_by: &mut [Option<usize>],
+) -> Option<()> {
+    let leftmost = form
+        .iter()
+        .position(|descendant| matches!(descendant.symbol, Symbol::Nonterminal(..)))?;
+    let Descendant {
+        symbol: Symbol::Nonterminal(nonterminal, stack),
+        ancestors,
+    } = form[leftmost].clone()
+    else {
+        return None;
+    };
+    let right_side = match production {
+        Production::Word { head, word } => {
+            (*head == nonterminal && stack.is_empty()).then(|| vec![Symbol::Word(*word)])?
+        }
+        Production::Pair(pair) => {
+            if pair.head != nonterminal {
+                return None;
+            }
+            let rest = rewritten(pair.action, stack, step, taken_by)?;
+            elements(pair, rest)
+        }
+    };
+    let places = [Place::First, Place::Second];
+    let descendants = right_side.into_iter().zip(places).map(|(symbol, place)| {
+        let mut ancestors = ancestors.clone();
+        ancestors.push(Element { step, place });
+        Descendant { symbol, ancestors }
+    });
+    form.splice(leftmost..=leftmost, descendants.collect::<Vec<_>>());
+    Some(())
+}
+
+/// The stack of the dependent; none if the left side does not fit.
+fn rewritten(
+    action: Action,
+    mut stack: Vec<Index>,
+    step: usize,
+    taken_by: &mut [Option<usize>],
+) -> Option<Vec<Index>> {
+    match action {
+        Action::Take(g) => {
+            let top = stack.pop()?;
+            if top.index != g {
+                return None;
+            }
+            taken_by[top.given_by] = Some(step);
+        }
+        Action::Keep => {}
+        Action::Give(g) => stack.push(Index {
+            index: g,
+            given_by: step,
+        }),
+    }
+    Some(stack)
+}
+
+fn elements(production: &PairProduction, rest: Vec<Index>) -> Vec<Symbol> {
+    let (first, second) = match production.dependent {
+        Place::First => (rest, Vec::new()),
+        Place::Second => (Vec::new(), rest),
+    };
+    vec![
+        Symbol::Nonterminal(production.first, first),
+        Symbol::Nonterminal(production.second, second),
+    ]
+}
+
+fn is_line(form: &[Descendant], words: &[u8]) -> bool {
+    form.len() == words.len()
+        && form
+            .iter()
+            .zip(words)
+            .all(|(descendant, &word)| matches!(descendant.symbol, Symbol::Word(w) if w == word))
+}
+
+/// First and last-plus-one of the words that descend from what `of` chooses.
+fn stretch(form: &[Descendant], of: impl Fn(&Element) -> bool) -> Option<(usize, usize)> {
+    let descends = |descendant: &Descendant| descendant.ancestors.iter().any(&of);
+    let start = form.iter().position(descends)?;
+    let end = form.iter().rposition(descends)? + 1;
+    Some((start, end))
+}
+
+/// Whether i, k and j of each step are those of the stretches covered in the end.
+fn stretches_agree(form: &[Descendant], steps: &[[u8; 4]]) -> bool {
+    steps.iter().enumerate().all(|(step, &[_, i, k, j])| {
+        let place = Place::First;
+        let whole = stretch(form, |element| element.step == step);
+        let first = stretch(form, |&element| element == Element { step, place });
+        let (Some((start, end)), Some((_, split))) = (whole, first) else {
+            return false;
+        };
+        [i, k, j].map(usize::from) == [start, split, end]
+    })
+}
+
+fn pairs(
+    card: &Card,
+    form: &[Descendant],
+    steps: &[[u8; 4]],
+    taken_by: &[Option<usize>],
+) -> Option<Vec<[u8; 2]>> {
+    let is_give = |step: &usize| {
+        let production = card.productions[usize::from(steps[*step][0])];
+        matches!(production, Production::Pair(pair) if matches!(pair.action, Action::Give(_)))
+    };
+    (0..steps.len())
+        .filter(is_give)
+        .map(|give| {
+            let both = [give, taken_by[give]?];
+            let [given, taken] = both.map(|step| side_start(card, form, steps, step));
+            Some([given?, taken?])
+        })
+        .collect()
+}
+
+/// The first word of a step's side.
+fn side_start(card: &Card, form: &[Descendant], steps: &[[u8; 4]], step: usize) -> Option<u8> {
+    let Production::Pair(pair) = card.productions[usize::from(steps[step][0])] else {
+        return None;
+    };
+    let place = match pair.dependent {
+        Place::First => Place::Second,
+        Place::Second => Place::First,
+    };
+    let (start, _) = stretch(form, |&element| element == Element { step, place })?;
+    Some(start as u8)
+}

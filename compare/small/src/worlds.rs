@@ -1,0 +1,88 @@
+//! Small cards, always the same ones.
+
+use independent::random::Random;
+use independent::write::CardText;
+
+/// Cards with one to three nonterminals, no to two indices and one to three words, `rounds` of
+/// each kind.
+pub fn cards(rounds: usize) -> Vec<CardText> {
+    let mut random = Random::new(1);
+    let mut list = Vec::new();
+    for round in 0..rounds {
+        for nonterminals in 1..=3 {
+            for indices in 0..=2 {
+                for words in 1..=2 + usize::from(round % 8 == 0) {
+                    list.push(card(&mut random, nonterminals, indices, words));
+                }
+            }
+        }
+    }
+    list
+}
+
+/// Every nonterminal makes a word; three to ten productions more, half of the time with one of
+/// each kind among them.
+fn card(random: &mut Random, nonterminals: usize, indices: usize, words: usize) -> CardText {
+    let mut productions: Vec<[u8; 6]> = (0..nonterminals)
+        .map(|nonterminal| [0, nonterminal as u8, random.below(words) as u8, 0, 0, 0])
+        .collect();
+    let kinds: &[u8] = if indices == 0 {
+        &[0, 3, 4]
+    } else {
+        &[0, 1, 2, 3, 4, 5, 6]
+    };
+    if random.once_in(2) {
+        for &kind in kinds {
+            productions.push(production(random, kind, nonterminals, indices, words));
+        }
+    }
+    for _ in 0..random.between(3, 10) {
+        let kind = *random.pick(kinds);
+        productions.push(production(random, kind, nonterminals, indices, words));
+    }
+    CardText {
+        nonterminals: nonterminals as u8,
+        indices: indices as u8,
+        words: ["a", "ab", "b"][..words]
+            .iter()
+            .map(|word| word.to_string())
+            .collect(),
+        productions,
+    }
+}
+
+fn production(
+    random: &mut Random,
+    kind: u8,
+    nonterminals: usize,
+    indices: usize,
+    words: usize,
+) -> [u8; 6] {
+    let [a, b, c] = [(); 3].map(|()| random.below(nonterminals) as u8);
+    match kind {
+        0 => [0, a, random.below(words) as u8, 0, 0, 0],
+        3 | 4 => [kind, a, b, c, 0, 0],
+        _ => [kind, a, b, c, random.between(1, indices) as u8, 0],
+    }
+}
+
+/// Cards of two to four productions whose plans are all tried.
+pub fn cards_for_plans() -> Vec<CardText> {
+    let card = |indices, productions: &[[u8; 6]]| CardText {
+        nonterminals: 2,
+        indices,
+        words: vec!["a".to_string(), "b".to_string()],
+        productions: productions.to_vec(),
+    };
+    let a_word = [0, 0, 0, 0, 0, 0];
+    let b_word = [0, 1, 1, 0, 0, 0];
+    vec![
+        card(0, &[a_word, [3, 0, 0, 0, 0, 0], [4, 0, 0, 0, 0, 0]]),
+        card(0, &[a_word, b_word, [3, 0, 1, 0, 0, 0]]),
+        card(0, &[a_word, [0, 1, 0, 0, 0, 0], [4, 0, 1, 0, 0, 0]]),
+        card(1, &[a_word, [1, 0, 0, 0, 1, 0], [5, 0, 0, 0, 1, 0]]),
+        card(1, &[a_word, [6, 0, 0, 1, 1, 0], b_word]),
+        card(1, &[a_word, a_word, [3, 0, 0, 0, 0, 0]]),
+        card(1, &[[0, 0, 1, 0, 0, 0], b_word, [4, 0, 0, 1, 0, 0]]),
+    ]
+}
