@@ -3,7 +3,7 @@
 pub mod bytes;
 mod entries;
 mod header;
-mod productions;
+pub mod productions;
 
 use bytes::byte;
 use bytes::wide;

@@ -2,7 +2,7 @@
 -- the derivable items fit the room.
 use Prim.Native.Nat.{ℕ, zero, suc, _+_, _*_, _≤_, _<_}
 use native.Mathlib.Omega.{arith}
-use native.Mathlib.Nat.{le-trans, mul-le-mul-left, mul-le-mul-right}
+use native.Mathlib.Nat.{le-trans, mul-le-mul-left, mul-le-mul-right, mul-assoc, mul-comm}
 use mathlib.Core.Path.{_≡_, refl, sym, _∙_, ap, subst, subst₂}
 use mathlib.Core.List.{List, [], _∷_, _++_, map}
 use mathlib.Core.Option.{Option, none, some}
@@ -15,7 +15,6 @@ use Rattle.grammar.proofs.InputLaws.{words-below}
 use Rattle.layout.specs.Card.{nonterminalCount, productionCount, grammarOf, cardNumber}
 use Rattle.layout.specs.Records.{chartBytes, capacity}
 use Rattle.layout.proofs.CardLaws.{card-one-sided}
-use Rattle.card.specs.declared.Production.{Production}
 use Rattle.chart_model.specs.Build.{build}
 use Rattle.chart_model.proofs.Exact.{build-chart, build-room, build-none}
 use Rattle.chart.specs.declared.Built.{Built}
@@ -31,21 +30,21 @@ all-zero : (l : List ℕ) → l ≡ replicate (length l) 0 → (k : ℕ) → get
 all-zero l e k = ap (λ (m : List ℕ). getD m k 0) e ∙ zero-at (length l) k
 
 pub tables-start : {g : List Rule} (card words : List ℕ) (n room : ℕ) {chart marks index sets : List ℕ} → Buildable card words n
-    → RoomLent room chart → TablesLent n marks index sets → Between g n (nonterminalCount card) room chart marks index sets 0
+    → RoomLent room chart → TablesLent n (nonterminalCount card) marks index sets
+    → Between g n (nonterminalCount card) room chart marks index sets 0
 tables-start card words n room {marks = marks} {index = index} b l t =
-    let N = nonterminalCount card in
-    let most : N ≤ 16 = counts-fit card (b .accepted) .symbols .1 in
-    let marksFit : N * n * n ≤ 16 * n * n = mul-le-mul-right n (mul-le-mul-right n most) in
-    let indexFit : n * n * N ≤ n * n * 16 = mul-le-mul-left (n * n) most in
-    start-between (b .short) most (l .small) (l .there) (omega (arith, t .marksThere)) (omega (arith, t .indexThere)) (t .setsThere)
-    (all-zero marks (t .marksZero)) (all-zero index (t .indexZero))
+    start-between (b .short) (counts-fit card (b .accepted) .symbols .1) (l .small) (l .there) (t .marksThere) (t .indexThere)
+    (t .setsThere) (all-zero marks (t .marksZero)) (all-zero index (t .indexZero))
 
--- Tables of zeros that are long enough for m words, and so for n.
-pub tables-lent : (n m a b c : ℕ) → n ≤ m → 16 * m * m < a → 3 * (m * m * 16) ≤ b → 2 * (m * m) ≤ c
-    → TablesLent n (replicate a 0) (replicate b 0) (replicate c 0)
-tables-lent n m a b c h x y z =
-    let square : n * n ≤ m * m = le-trans (mul-le-mul-left n h) (mul-le-mul-right m h) in
-    let row : 16 * n * n ≤ 16 * m * m = le-trans (mul-le-mul-left (16 * n) h) (mul-le-mul-right m (mul-le-mul-left 16 h)) in
+pub square-most : (n m : ℕ) → n ≤ m → n * n ≤ m * m
+square-most n m h = le-trans (mul-le-mul-left n h) (mul-le-mul-right m h)
+
+-- Tables of zeros that are long enough for m words and so many cells, n * n for each of N nonterminals.
+pub tables-lent : (n N m cells a b c : ℕ) → n ≤ m → n * n * N ≤ cells → cells < a → 3 * cells ≤ b → 2 * (m * m) ≤ c
+    → TablesLent n N (replicate a 0) (replicate b 0) (replicate c 0)
+tables-lent n N m cells a b c h few x y z =
+    let square = square-most n m h in
+    let same : N * n * n ≡ n * n * N = mul-assoc N n n ∙ mul-comm N (n * n) in
     let ra = length-replicate {A = ℕ} a 0 in
     let rb = length-replicate {A = ℕ} b 0 in
     let rc = length-replicate {A = ℕ} c 0 in
@@ -58,7 +57,11 @@ tables-lent n m a b c h x y z =
       setsThere = omega arith;
     }
 
-pub closed-as : {many many′ N N′ after : ℕ} {old new : List ℕ} (room n : ℕ) (rules : List Production) (words : List ℕ) → many ≡ many′ → N ≡ N′
+-- No more cells than for m words and 16 nonterminals.
+pub cells-most : (n N m : ℕ) → n ≤ m → N ≤ 16 → n * n * N ≤ m * m * 16
+cells-most n N m a b = le-trans (mul-le-mul-left (n * n) b) (mul-le-mul-right 16 (square-most n m a))
+
+pub closed-as : {many many′ N N′ after : ℕ} {old new : List ℕ} (room n : ℕ) (rules : List ℕ) (words : List ℕ) → many ≡ many′ → N ≡ N′
     → Closed room (build room (grammarIn rules many) (wordIs (take n words)) N n) old new after
     → Closed room (build room (grammarIn rules many′) (wordIs (take n words)) N′ n) old new after
 closed-as {after = after} {old = old} {new = new} room n rules words e f c =
@@ -71,7 +74,7 @@ module _ (card words : List ℕ) (n room : ℕ) (b : Buildable card words n) whe
   below : Below (Holds (wordIs (take n words))) n
   below i w h = omega (arith, words-below (take n words) i w h, length-take n words)
 
-  pub closed-decoded : {old new : List ℕ} {after : ℕ} (rules : List Production) → DecodedAll card (productionCount card) rules
+  pub closed-decoded : {old new : List ℕ} {after : ℕ} (rules : List ℕ) → DecodedAll card (productionCount card) rules
       → Closed room (build room (grammarIn rules (productionCount card)) (wordIs (take n words)) (nonterminalCount card) n) old new after
       → Closed room result old new after
   closed-decoded {old} {new} {after} rules d c =

@@ -17,14 +17,12 @@ use Rattle.layout.specs.Bytes.{byteAt, counted, allBelow}
 use Rattle.layout.specs.Card.{nonterminalCount, wordCount, indexCount, productionCount, within, productionAt, production, grammarOf, ruleOf, wordProductionFits, pairFits, kindFits, productionFits, cardNumber}
 use Rattle.card.proofs.Laws.{below-all}
 use Rattle.card.proofs.Accepted.{Accepted, accepted}
-use Rattle.card.specs.declared.Production.{Production}
 use Rattle.chart_model.proofs.Exact.{leftOf}
 use Rattle.steps.specs.Fits.{ActionFits, SymbolsFit, RuleFits}
 use Rattle.chart.specs.Tables.{RulesFit, rulesFrom, grammarIn}
 use Rattle.chart.specs.Built.{DecodedAll}
 use Rattle.records.proofs.RoomLaws.{counted-at}
 use Rattle.chart.proofs.CellLaws.{getElem-take}
-use Rattle.chart.proofs.BuiltLaws.{rules-count}
 
 counted-past : {A : Type 0} (f : ℕ → A) (k n p : ℕ) → n ≤ p → getElem? (map f (counted k n)) p ≡ none
 counted-past f k zero p h = refl
@@ -111,23 +109,26 @@ lefts-below card e p r s =
     left-fits N (Lexical A w) f = f
     left-fits N (Spine A a before D after) f = f .0
 
-pub rules-fit : (card : List ℕ) (rules : List Production) → cardNumber card ≡ 0 → DecodedAll card (productionCount card) rules
+pub rules-fit : (card : List ℕ) (rules : List ℕ) → cardNumber card ≡ 0 → DecodedAll card (productionCount card) rules
     → RulesFit (nonterminalCount card) rules
-rules-fit card rules e d p r there = elim (decLt p (productionCount card)) [
-  | yes h ↦
-      let in-grammar : getElem? (grammarOf card) p ≡ some r =
-      ap (λ (g : List Rule). getElem? g p) (sym (d .decoded)) ∙ (getElem-take (productionCount card) (rulesFrom rules) p h ∙ there) in
-      subst (RuleFits (nonterminalCount card)) (sym (rule-at card p h in-grammar)) (production-fits card p e h)
-  | no h ↦
-      subst (RuleFits (nonterminalCount card)) (sym (d .padded p r (omega arith) there)) (counts-fit card e .symbols .0)
-]
+rules-fit card rules e d = record { long = d .long; fits = fits }
+  where
+    fits : (p : ℕ) (r : Rule) → getElem? (rulesFrom rules) p ≡ some r → RuleFits (nonterminalCount card) r
+    fits p r there = elim (decLt p (productionCount card)) [
+      | yes h ↦
+          let in-grammar : getElem? (grammarOf card) p ≡ some r =
+          ap (λ (g : List Rule). getElem? g p) (sym (d .decoded)) ∙ (getElem-take (productionCount card) (rulesFrom rules) p h ∙ there) in
+          subst (RuleFits (nonterminalCount card)) (sym (rule-at card p h in-grammar)) (production-fits card p e h)
+      | no h ↦
+          subst (RuleFits (nonterminalCount card)) (sym (d .padded p r (omega arith) there)) (counts-fit card e .symbols .0)
+    ]
 
 symbols-more : (N M : ℕ) → N ≤ M → (Bs : List ℕ) → SymbolsFit N Bs → SymbolsFit M Bs
 symbols-more N M h [] f = tt
 symbols-more N M h (B ∷ Bs) f = (omega (arith, f .0), symbols-more N M h Bs (f .1))
 
-pub rules-more : (N M : ℕ) (rules : List Production) → N ≤ M → RulesFit N rules → RulesFit M rules
-rules-more N M rules h f p r e = more r (f p r e)
+pub rules-more : (N M : ℕ) (rules : List ℕ) → N ≤ M → RulesFit N rules → RulesFit M rules
+rules-more N M rules h f = record { long = f .long; fits = λ p r e. more r (f .fits p r e) }
   where
     more : (r : Rule) → RuleFits N r → RuleFits M r
     more (Lexical A w) g = omega arith

@@ -1,9 +1,9 @@
--- One cell: its candidates as the code finds them, and what holds between cells once it is filled.
+-- One cell: what a rule adds to it, as the code finds it, and what holds between cells once it is filled.
 -- The model's state says how the chart has grown, and by that the tables agree again.
 use Prim.Native.Nat.{ℕ, zero, suc, _+_, _-_, _*_, _≤_, _<_}
 use native.Mathlib.Nat.{le-refl}
 use native.Mathlib.Omega.{arith}
-use mathlib.Core.Path.{_≡_, refl, sym, _∙_, ap, subst, subst₃}
+use mathlib.Core.Path.{_≡_, refl, sym, _∙_, ap, subst}
 use mathlib.Core.Bool.{Bool, true, false≢true}
 use mathlib.Core.List.{List, [], _∷_}
 use mathlib.Core.Option.{Option, none, some}
@@ -13,9 +13,7 @@ use borrow.Author.Tests.{eqb-true}
 use Rattle.grammar.specs.Rewriting.{Rule, Lexical, Spine}
 use Rattle.grammar.specs.Input.{wordIs}
 use Rattle.grammar.specs.Chart.{Record}
-use Rattle.card.specs.declared.Production.{Production}
-use Rattle.chart_model.specs.Build.{flatUp, places, barePlaces, atSplit, byWordRule, byWord, candidates, addEach, fillCell}
-use Rattle.chart_model.proofs.Absent.{flatUp-past, flatUp-same, getElem-past}
+use Rattle.chart_model.specs.Build.{places, barePlaces, byWord, acrossSplits, byRuleOver, addEach, fillCell}
 use Rattle.chart_model.proofs.FillModel.{IsCell, Grown, cell-grown, places-other, bareAt, bares-own, fresh-among}
 use Rattle.records.specs.declared.index.Range.{Range}
 use Rattle.records.specs.Room.{chartIn, stateOf, Added}
@@ -39,48 +37,36 @@ word-true (x ∷ words) zero i w t = absurd (false≢true t)
 word-true (x ∷ words) (suc n) zero w t = eqb-true x w t
 word-true (x ∷ words) (suc n) (suc i) w t = word-true words n i w t
 
--- The candidates of a word, and of a longer span, as the code counts them.
-module _ (g : List Rule) (c : List Record) (A i : ℕ) where
-  word-same : (at : ℕ → ℕ → Bool) (w p : ℕ) → ((w′ : ℕ) → at i w′ ≡ eqb w w′) → (o : Option Rule)
-      → _≡_ {A = List Record} (elim o [ none ↦ [] | some r ↦ byWordRule (thisWord w) A i p r ])
-      (elim o [ none ↦ [] | some r ↦ byWordRule at A i p r ])
-  word-same at w p e none = refl
-  word-same at w p e (some (Lexical A′ w′)) = rw (e w′)
-  word-same at w p e (some (Spine A′ a before D after)) = refl
+-- What a rule adds to a cell of one word, and of more, as the code finds it.
+module _ (c : List Record) (A i : ℕ) where
+  word-same : (at : ℕ → ℕ → Bool) (w p : ℕ) → ((w′ : ℕ) → at i w′ ≡ eqb w w′) → (r : Rule)
+      → byWord (thisWord w) A i p r ≡ byWord at A i p r
+  word-same at w p e (Lexical A′ w′) = rw (e w′)
+  word-same at w p e (Spine A′ a before D after) = refl
 
-  word-past : (at : ℕ → ℕ → Bool) (p : ℕ) → getElem? g p ≡ none → byWord g at A i p ≡ []
-  word-past at p e =
-      subst (λ (o : Option Rule). _≡_ {A = List Record} (elim o [ none ↦ [] | some r ↦ byWordRule at A i p r ]) []) (sym e) refl
+  pub over-word : (words : List ℕ) (n j k p : ℕ) (r : Rule) → k ≡ i → i < n → i < length words → j - i ≡ 1
+      → byWord (thisWord (getD words k 0)) A i p r ≡ byRuleOver (wordIs (take n words)) c A i (j - i) p r
+  over-word words n j k p r q a b e =
+      rw e (word-same (wordIs (take n words)) (getD words k 0) p (λ w′. rw q (word-test words n i w′ a b)) r)
 
-  pub words-are : (words : List ℕ) (n j k many : ℕ) → k ≡ i → i < n → i < length words → j - i ≡ 1 → length g ≤ many
-      → flatUp (byWord g (thisWord (getD words k 0)) A i) 0 many ≡ candidates g (wordIs (take n words)) c A i (j - i)
-  words-are words n j k many q a b e l =
-      let w = getD words k 0 in
-      let at = wordIs (take n words) in
-      let same : (w′ : ℕ) → at i w′ ≡ eqb w w′ = λ w′. rw q (word-test words n i w′ a b) in
-      rw e (flatUp-past (byWord g (thisWord w) A i) (length g) many l (λ p m. word-past (thisWord w) p (getElem-past g p m))
-      ∙ flatUp-same (byWord g (thisWord w) A i) (byWord g at A i) 0 (length g) (λ p. word-same at w p same (getElem? g p)))
-
-  pub splits-are : (at : ℕ → ℕ → Bool) (j : ℕ) → i < j → (j - i ≡ 1 → ⊥)
-      → flatUp (atSplit g c A i j) (i + 1) (j - i - 1) ≡ candidates g at c A i (j - i)
-  splits-are at j l d = go (j - i) refl
+  pub over-splits : (at : ℕ → ℕ → Bool) (j p : ℕ) (r : Rule) → i < j → (j - i ≡ 1 → ⊥)
+      → acrossSplits c A i j p r ≡ byRuleOver at c A i (j - i) p r
+  over-splits at j p r l d = go (j - i) refl
     where
-      go : (len : ℕ) → j - i ≡ len → flatUp (atSplit g c A i j) (i + 1) (j - i - 1) ≡ candidates g at c A i (j - i)
+      go : (len : ℕ) → j - i ≡ len → acrossSplits c A i j p r ≡ byRuleOver at c A i (j - i) p r
       go zero e = absurd (omega arith)
       go (suc zero) e = absurd (d e)
       go (suc (suc len)) e =
           let s : i + suc (suc len) ≡ j = omega arith in
-          let t : suc i ≡ i + 1 = omega arith in
-          let u : suc len ≡ j - i - 1 = omega arith in
-          subst (λ (x : ℕ). flatUp (atSplit g c A i j) (i + 1) (j - i - 1) ≡ candidates g at c A i x) (sym e)
-          (subst₃ (λ (j′ x y : ℕ). flatUp (atSplit g c A i j′) x y ≡ candidates g at c A i (suc (suc len))) s t u refl)
+          subst (λ (x : ℕ). acrossSplits c A i j p r ≡ byRuleOver at c A i x p r) (sym e)
+          (subst (λ (j′ : ℕ). acrossSplits c A i j′ p r ≡ byRuleOver at c A i (suc (suc len)) p r) s refl)
 
 pub added-same : {n N room A i j count after : ℕ} {rs rs′ : List Record} {old oldMarks new newMarks : List ℕ} → rs ≡ rs′
     → Added n N room A i j rs old oldMarks count new newMarks after → Added n N room A i j rs′ old oldMarks count new newMarks after
 added-same {n} {N} {room} {A} {i} {j} {count} {after} {old = old} {oldMarks} {new} {newMarks} e a =
     subst (λ (rs : List Record). Added n N room A i j rs old oldMarks count new newMarks after) e a
 
-pub grammar-length : (rules : List Production) (many : ℕ) → length (grammarIn rules many) ≤ many
+pub grammar-length : (rules : List ℕ) (many : ℕ) → length (grammarIn rules many) ≤ many
 grammar-length rules many = omega (arith, length-take many (rulesFrom rules))
 
 -- An item did not fit: nothing more is promised.

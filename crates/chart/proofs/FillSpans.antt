@@ -19,82 +19,47 @@ use Rattle.grammar.specs.Input.{wordIs}
 use Rattle.grammar.specs.Chart.{Record}
 use Rattle.grammar.proofs.StandsLaws.{some-same, none-some}
 use Rattle.layout.specs.Records.{chartBytes}
-use Rattle.chart_model.specs.Build.{foldUp, places, barePlaces, byAction, byRule, byWordRule, candidates, addEach, fillCell, closeSpan, closeLength}
+use Rattle.chart_model.specs.Build.{foldUp, places, byRule, byWord, byRuleOver, candidates, addEach, fillCell, closeSpan, closeLength}
 use Rattle.chart_model.proofs.BuildLaws.{foldUp-more}
 use Rattle.chart_model.proofs.FillModel.{Grown, same, grown-length, cell-grown, span-grown, length-grown, all-grown, places-other, bares-other, fold-none, not-so}
-use Rattle.chart_model.proofs.Absent.{concatMap-none, choice-none, choice-false, action-none, words-none, splits-none}
+use Rattle.chart_model.proofs.Absent.{splits-none, candidates-none}
 use Rattle.records.specs.Bits.{bitOf}
 use Rattle.records.specs.Room.{chartIn}
 use Rattle.records.specs.Index.{spanAt}
-use Rattle.chart.specs.Tables.{FirstAbsent, SecondAbsent, Sorted, leftIs, OwnSet}
+use Rattle.chart.specs.Tables.{Sorted, leftIs, OwnSet, CellSet}
 use Rattle.chart.specs.Fill.{WordRule, Classified, SpanSet, Between, Filled, Closed}
 use Rattle.records.proofs.BitLaws.{bitOf-and}
 use Rattle.records.proofs.RoomLaws.{chart-length}
+use Rattle.chart.proofs.CellLaws.{absent-first, absent-second, not-own, and-zero}
 use Rattle.chart.proofs.FillLaws.{state-some, state-over, bit-zero, first-kept, second-kept}
 use Rattle.chart.proofs.FillCells.{word-true, over-filled}
 
--- A rule of another nonterminal, one that lacks an element at a split, and one for another word make no records.
-module _ (c : List Record) (A i k j p : ℕ) where
-  other-rule : (r : Rule) → (leftIs A r → ⊥) → byRule c A i k j p r ≡ []
-  other-rule (Lexical A′ w) h = refl
-  other-rule (Spine A′ a (B ∷ []) D []) h = choice-false (eqb A′ A) _ (ne-eqb A′ A h)
-  other-rule (Spine A′ a (B ∷ []) D (C ∷ after)) h = refl
-  other-rule (Spine A′ a (B ∷ C ∷ before) D after) h = refl
-  other-rule (Spine A′ a [] D []) h = refl
-  other-rule (Spine A′ a [] D (B ∷ [])) h = choice-false (eqb A′ A) _ (ne-eqb A′ A h)
-  other-rule (Spine A′ a [] D (B ∷ C ∷ after)) h = refl
-
-  first-none : (r : Rule) → FirstAbsent c i k r → byRule c A i k j p r ≡ []
-  first-none (Lexical A′ w) h = refl
-  first-none (Spine A′ a (B ∷ []) D []) h = choice-none (eqb A′ A) _ (rw h)
-  first-none (Spine A′ a (B ∷ []) D (C ∷ after)) h = refl
-  first-none (Spine A′ a (B ∷ C ∷ before) D after) h = refl
-  first-none (Spine A′ a [] D []) h = refl
-  first-none (Spine A′ a [] D (B ∷ [])) h =
-      choice-none (eqb A′ A) _ (concatMap-none (byAction c a D i k A i j p) (barePlaces c B k j) (λ x. action-none c a D i k A i j p x h))
-  first-none (Spine A′ a [] D (B ∷ C ∷ after)) h = refl
-
-  second-none : (r : Rule) → SecondAbsent c k j r → byRule c A i k j p r ≡ []
-  second-none (Lexical A′ w) h = refl
-  second-none (Spine A′ a (B ∷ []) D []) h =
-      choice-none (eqb A′ A) _ (concatMap-none (byAction c a D k j A i j p) (barePlaces c B i k) (λ x. action-none c a D k j A i j p x h))
-  second-none (Spine A′ a (B ∷ []) D (C ∷ after)) h = refl
-  second-none (Spine A′ a (B ∷ C ∷ before) D after) h = refl
-  second-none (Spine A′ a [] D []) h = refl
-  second-none (Spine A′ a [] D (B ∷ [])) h = choice-none (eqb A′ A) _ (rw h)
-  second-none (Spine A′ a [] D (B ∷ C ∷ after)) h = refl
-
+-- A word rule of another nonterminal, and one for another word, make no records.
 module _ (words : List ℕ) (n A i p : ℕ) where
-  other-word : (r : Rule) → (leftIs A r → ⊥) → byWordRule (wordIs (take n words)) A i p r ≡ []
+  other-word : (r : Rule) → (leftIs A r → ⊥) → byWord (wordIs (take n words)) A i p r ≡ []
   other-word (Lexical A′ w) h = rw (ne-eqb A′ A h)
   other-word (Spine A′ a before D after) h = refl
 
-  word-none : (r : Rule) → (WordRule (getD words i 0) r → ⊥) → byWordRule (wordIs (take n words)) A i p r ≡ []
+  word-none : (r : Rule) → (WordRule (getD words i 0) r → ⊥) → byWord (wordIs (take n words)) A i p r ≡ []
   word-none (Lexical A′ w) h =
       rw (not-so (eqb A′ A && wordIs (take n words) i w) (λ t. h (word-true words n i w (and-eq-true-iff (eqb A′ A) _ .0 t .1))))
   word-none (Spine A′ a before D after) h = refl
 
--- A bit that two sets do not share is missing in one of them.
-and-zero : (p x y : ℕ) → bitOf p (bitAnd x y) ≡ 0 → (bitOf p x ≡ 0) ⊎ (bitOf p y ≡ 0)
-and-zero p x y e = elim (ℕ-discrete (bitOf p x) 0) [
-  | yes z ↦ inl z
-  | no d ↦ inr (omega (arith, bitOf-and p x y))
-]
-
 -- The records of the span so far are no antecedents in it, so what the sets said of the chart before it still holds.
 module _ (g : List Rule) (n A i j set own : ℕ) (sets words : List ℕ) {P : ℕ → ℕ → ℕ → Type 0} {c b : List Record}
-    (spans : SpanSet g n sets words i j set) (owns : OwnSet g A own) (apart : (p : ℕ) → bitOf p (bitAnd own set) ≡ 0) (ij : i < j)
-    (jn : j ≤ n) (sorted : Sorted g n c sets) (grown : Grown P c b)
+    (spans : SpanSet g n sets words i j set) (owns : OwnSet g A own) (ij : i < j) (jn : j ≤ n)
+    (sorted : Sorted g n c sets) (grown : Grown P c b)
     (inside : (B x y : ℕ) → P B x y → (x ≡ i) × (y ≡ j)) where
-  split-none : (k p : ℕ) (r : Rule) → i < k → k < j → getElem? g p ≡ some r → byRule b A i k j p r ≡ []
-  split-none k p r ik kj e = elim (and-zero p own set (apart p)) [
-    | inl z ↦ other-rule b A i k j p r (owns .has p r e z)
+  split-none : (k p : ℕ) (r : Rule) → i < k → k < j → getElem? g p ≡ some r → bitOf p (bitAnd own set) ≡ 0
+      → byRule b A i k j p r ≡ []
+  split-none k p r ik kj e apart = elim (and-zero p own set apart) [
+    | inl z ↦ not-own b A i k j p r (owns .has p r e z)
     | inr z ↦ elim (and-zero p (getD sets (2 * spanAt n i k) 0) (getD sets (2 * spanAt n k j + 1) 0)
         (spans .ofSplits (omega arith) p k ik kj z)) [
-          | inl y ↦ first-none b A i k j p r
+          | inl y ↦ absent-first b A i k j p r
               (first-kept b c i k r (λ B. places-other B i k (λ h. left B h) grown) (λ B. bares-other B i k (λ h. left B h) grown)
               (sorted .firsts p r i k e ik (omega arith) y))
-          | inr y ↦ second-none b A i k j p r
+          | inr y ↦ absent-second b A i k j p r
               (second-kept b c k j r (λ B. places-other B k j (λ h. right B h) grown) (λ B. bares-other B k j (λ h. right B h) grown)
               (sorted .seconds p r k j e kj jn y))
         ]
@@ -106,27 +71,36 @@ module _ (g : List Rule) (n A i j set own : ℕ) (sets words : List ℕ) {P : �
       right : (B : ℕ) → P B k j → ⊥
       right B h = omega (arith, inside B k j h)
 
-  word-rule-none : (p : ℕ) (r : Rule) → j ≡ i + 1 → getElem? g p ≡ some r → byWordRule (wordIs (take n words)) A i p r ≡ []
-  word-rule-none p r one e = elim (and-zero p own set (apart p)) [
+  word-rule-none : (p : ℕ) (r : Rule) → j ≡ i + 1 → getElem? g p ≡ some r → bitOf p (bitAnd own set) ≡ 0
+      → byWord (wordIs (take n words)) A i p r ≡ []
+  word-rule-none p r one e apart = elim (and-zero p own set apart) [
     | inl z ↦ other-word words n A i p r (owns .has p r e z)
     | inr z ↦ word-none words n A i p r (spans .ofWord one p r e z)
   ]
 
-  no-candidates : candidates g (wordIs (take n words)) b A i (j - i) ≡ []
-  no-candidates = go (j - i) refl
+  rule-none : (p : ℕ) (r : Rule) → getElem? g p ≡ some r → bitOf p (bitAnd own set) ≡ 0
+      → byRuleOver (wordIs (take n words)) b A i (j - i) p r ≡ []
+  rule-none p r e apart = go (j - i) refl
     where
-      go : (len : ℕ) → j - i ≡ len → candidates g (wordIs (take n words)) b A i (j - i) ≡ []
-      go zero e = absurd (omega arith)
-      go (suc zero) e =
-          rw e (words-none g (wordIs (take n words)) b A i (λ p r q. word-rule-none p r (omega arith) q))
-      go (suc (suc len)) e =
+      go : (len : ℕ) → j - i ≡ len → byRuleOver (wordIs (take n words)) b A i (j - i) p r ≡ []
+      go zero q = absurd (omega arith)
+      go (suc zero) q = rw q (word-rule-none p r (omega arith) e apart)
+      go (suc (suc len)) q =
           let s : j ≡ i + suc (suc len) = omega arith in
-          rw e (splits-none g (wordIs (take n words)) b A i len
-          (λ k p r x y q. subst (λ (j′ : ℕ). byRule b A i k j′ p r ≡ []) s (split-none k p r x (omega arith) q)))
+          rw q (splits-none b A i (i + suc (suc len)) p r
+          (λ k x y. subst (λ (j′ : ℕ). byRule b A i k j′ p r ≡ []) s (split-none k p r x (omega arith) e apart)))
 
-  -- So its turn changes nothing.
-  pub idle-cell : (room : ℕ) → fillCell room g (wordIs (take n words)) (j - i) i A (some b) ≡ some b
-  idle-cell room = ap (λ (rs : List Record). addEach room rs (some b)) no-candidates
+  -- So the productions that both sets have are all that can add to the cell.
+  pub cell-set : CellSet g (wordIs (take n words)) b A i (j - i) (bitAnd own set)
+  cell-set = record { idle = rule-none; noMore = λ p l. omega (arith, owns .noMore p l, bitOf-and p own set) }
+
+  no-candidates : ((p : ℕ) → bitOf p (bitAnd own set) ≡ 0) → candidates g (wordIs (take n words)) b A i (j - i) ≡ []
+  no-candidates apart = candidates-none g (wordIs (take n words)) b A i (j - i) (λ p r e. rule-none p r e (apart p))
+
+  -- Where there is none the cell's turn changes nothing.
+  pub idle-cell : (room : ℕ) → ((p : ℕ) → bitOf p (bitAnd own set) ≡ 0)
+      → fillCell room g (wordIs (take n words)) (j - i) i A (some b) ≡ some b
+  idle-cell room apart = ap (λ (rs : List Record). addEach room rs (some b)) (no-candidates apart)
 
 -- Turns that change nothing.
 pub fold-idle : (f : ℕ → Option (List Record) → Option (List Record)) (m : ℕ) (c : List Record)
@@ -144,16 +118,21 @@ module _ {g : List Rule} {n N count : ℕ} {chart marks index sets by words : Li
   idle-span z =
       fold-idle (fillCell room g (wordIs (take n words)) (j - i) i) N (chartIn chart count)
       (λ A l. idle-cell g n A i j set (getD by A 0) sets words {P = λ _ _ _. ⊥} spans
-      (classes .own A (omega (arith, b .symbolsFit))) (λ p. omega (arith, bitOf-and p (getD by A 0) set, ap (bitOf p) z ∙ bit-zero p)) ij jn
-      (b .sorted) same (λ B x y h. absurd h) room)
+      (classes .own A (omega (arith, b .symbolsFit))) ij jn (b .sorted) same (λ B x y h. absurd h) room
+      (λ p. omega (arith, bitOf-and p (getD by A 0) set, ap (bitOf p) z ∙ bit-zero p)))
 
-  pub idle-turn : {c : List Record} (A : ℕ) → A < N → bitAnd (getD by A 0) set ≡ 0
-      → foldUp (fillCell room g (wordIs (take n words)) (j - i) i) A (some (chartIn chart count)) ≡ some c
-      → fillCell room g (wordIs (take n words)) (j - i) i A (some c) ≡ some c
-  idle-turn A l z q =
-      idle-cell g n A i j set (getD by A 0) sets words spans (classes .own A (omega (arith, b .symbolsFit)))
-      (λ p. ap (bitOf p) z ∙ bit-zero p) ij jn (b .sorted) (span-grown room g (wordIs (take n words)) (j - i) i A q)
-      (λ B x y (u, v, w). (v, omega arith)) room
+  module _ {c : List Record} (A : ℕ) (l : A < N)
+      (q : foldUp (fillCell room g (wordIs (take n words)) (j - i) i) A (some (chartIn chart count)) ≡ some c) where
+    pub idle-turn : bitAnd (getD by A 0) set ≡ 0 → fillCell room g (wordIs (take n words)) (j - i) i A (some c) ≡ some c
+    idle-turn z =
+        idle-cell g n A i j set (getD by A 0) sets words spans (classes .own A (omega (arith, b .symbolsFit))) ij jn (b .sorted)
+        (span-grown room g (wordIs (take n words)) (j - i) i A q) (λ B x y (u, v, w). (v, omega arith)) room
+        (λ p. ap (bitOf p) z ∙ bit-zero p)
+
+    pub turn-set : CellSet g (wordIs (take n words)) c A i (j - i) (bitAnd (getD by A 0) set)
+    turn-set =
+        cell-set g n A i j set (getD by A 0) sets words spans (classes .own A (omega (arith, b .symbolsFit))) ij jn (b .sorted)
+        (span-grown room g (wordIs (take n words)) (j - i) i A q) (λ B x y (u, v, w). (v, omega arith))
 
 pub fresh-turn : {b : List Record} (c : List Record) (room : ℕ) (g : List Rule) (at : ℕ → ℕ → Bool) (i j A : ℕ) → places c A i j ≡ []
     → foldUp (fillCell room g at (j - i) i) A (some c) ≡ some b → places b A i j ≡ []

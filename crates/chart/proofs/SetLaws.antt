@@ -1,28 +1,30 @@
 -- Sets of productions as bits. `|` only adds bits, so no set loses a production; hence what the sets say of the rules so far holds
 -- of one rule more as soon as that production's own bit is in the sets that its rule asks for.
-use Prim.Native.Nat.{ℕ, zero, suc, _+_, _*_, _%_, _^_, _≤_, _<_}
+use Prim.Native.Nat.{ℕ, zero, suc, _+_, _*_, _/_, _%_, _^_, _≤_, _<_}
 use native.Mathlib.Numerals.{add-one}
 use native.Mathlib.Omega.{arith}
 use native.Mathlib.Decide.{ℕ-discrete}
 use mathlib.Core.Path.{_≡_, refl, sym, ap, ap₂, subst, _∙_}
 use mathlib.Core.Logic.{_⊎_, inl, inr}
+use mathlib.Core.Bool.{false}
 use mathlib.Core.List.{List, [], _∷_}
 use mathlib.Core.Option.{some}
 use lib.Bits.{bitAnd, bitOr}
+use lib.Dec.{eqb, lit<}
 use lib.ListN.{length, getD, getElem?, set, replicate, length-set, length-take}
 use lib.Seq.{getD-set-same, getD-set-other}
-use denote.Enum.Declared.{tagOf}
+use borrow.Author.Tests.{ne-eqb}
 use Rattle.grammar.specs.Rewriting.{Rule, Lexical, Spine, Action}
 use Rattle.grammar.proofs.StandsLaws.{none-some, some-same}
+use Rattle.layout.specs.Card.{ruleOf}
 use Rattle.card.specs.Productions.{actionFrom, ruleFrom}
 use Rattle.card.specs.declared.Action as declared
 use Rattle.card.specs.declared.Production.{Production}
 use Rattle.card.specs.declared.Production.the-variants.{Word, SideFirst, SideLast}
-use Rattle.card.proofs.Production.{the-type}
 use Rattle.records.specs.Bits.{bitOf}
 use Rattle.records.specs.Index.{spanAt}
 use Rattle.steps.specs.Fits.{RuleFits}
-use Rattle.chart.specs.Tables.{leftIs, rulesFrom, grammarIn, RulesFit}
+use Rattle.chart.specs.Tables.{leftIs, packedRule, rulesFrom, grammarIn, RulesFit}
 use Rattle.chart.specs.Fill.{FirstSide, FirstDependent, SecondSide, SecondDependent, SetOf, Classified, withBit, Joined, WordRule, Noted}
 use Rattle.records.proofs.BitLaws.{bitOf-or, bitOf-zero, bitOf-power, bitOf-other, one-shifted}
 use Rattle.chart.proofs.CellLaws.{rule-there}
@@ -169,24 +171,23 @@ module _ {r : Production} (p : ℕ) {old : List ℕ} (f : RuleFits 16 (ruleFrom 
         let (u, v, w) = last-fits e f in rw (e, n, m, l, h, i, j) (joined-last old p A long u (actionFrom a) D B v w)
 
 -- A rule of a grammar that has one rule more: one of those before, or the last.
-rule-more : (rules : List Production) (p q : ℕ) {r : Rule} (d : Production) → getElem? (grammarIn rules (suc p)) q ≡ some r
-    → (getElem? (grammarIn rules p) q ≡ some r) ⊎ ((q ≡ p) × (r ≡ ruleFrom (getD rules p d)))
-rule-more [] p q d e = absurd (none-some e)
-rule-more (x ∷ rules) zero zero d e = inr (refl, sym (some-same e))
-rule-more (x ∷ rules) zero (suc q) d e = absurd (none-some e)
-rule-more (x ∷ rules) (suc p) zero d e = inl e
-rule-more (x ∷ rules) (suc p) (suc q) d e = elim (rule-more rules p q d e) [
+rule-more : (rules : List ℕ) (p q : ℕ) {r : Rule} → getElem? (grammarIn rules (suc p)) q ≡ some r
+    → (getElem? (grammarIn rules p) q ≡ some r) ⊎ ((q ≡ p) × (r ≡ packedRule (getD rules p 0)))
+rule-more [] p q e = absurd (none-some e)
+rule-more (x ∷ rules) zero zero e = inr (refl, sym (some-same e))
+rule-more (x ∷ rules) zero (suc q) e = absurd (none-some e)
+rule-more (x ∷ rules) (suc p) zero e = inl e
+rule-more (x ∷ rules) (suc p) (suc q) e = elim (rule-more rules p q e) [
   | inl f ↦ inl f
   | inr (a, b) ↦ inr (ap suc a, b)
 ]
 
-rules-length : (rules : List Production) → length (rulesFrom rules) ≡ length rules
+pub rules-length : (rules : List ℕ) → length (rulesFrom rules) ≡ length rules
 rules-length [] = refl
-rules-length (r ∷ rules) = ap suc (rules-length rules)
+rules-length (w ∷ rules) = ap suc (rules-length rules)
 
-pub rule-fits : (N : ℕ) (rules : List Production) (p : ℕ) (d : Production) → p < length rules → RulesFit N rules
-    → RuleFits N (ruleFrom (getD rules p d))
-rule-fits N rules p d h f = f p _ (rule-there rules d p h)
+pub rule-fits : {N : ℕ} {rules : List ℕ} (p : ℕ) → p < 64 → RulesFit N rules → RuleFits N (packedRule (getD rules p 0))
+rule-fits {rules = rules} p h f = f .fits p _ (rule-there rules p (omega (arith, f .long)))
 
 -- What is all 0 is 0 everywhere.
 pub zero-at : (n s : ℕ) → _≡_ {A = ℕ} (getD (replicate n 0) s 0) 0
@@ -198,10 +199,10 @@ zero-at (suc n) (suc s) = zero-at n s
 pub setOf-none : (test : Rule → Type 0) (set : ℕ) → SetOf [] test set
 setOf-none test set p r e = absurd (none-some e)
 
-setOf-more : (rules : List Production) (p : ℕ) (d : Production) (test : Rule → Type 0) (old new : ℕ)
+setOf-more : (rules : List ℕ) (p : ℕ) (test : Rule → Type 0) (old new : ℕ)
     → SetOf (grammarIn rules p) test old → ((q : ℕ) → bitOf q new ≡ 0 → bitOf q old ≡ 0)
-    → (test (ruleFrom (getD rules p d)) → bitOf p new ≡ 0 → ⊥) → SetOf (grammarIn rules (p + 1)) test new
-setOf-more rules p d test old new so kept there q r e z t = elim (rule-more rules p q d (rw add-one at e)) [
+    → (test (packedRule (getD rules p 0)) → bitOf p new ≡ 0 → ⊥) → SetOf (grammarIn rules (p + 1)) test new
+setOf-more rules p test old new so kept there q r e z t = elim (rule-more rules p q (rw add-one at e)) [
   | inl f ↦ so q r f (kept q z) t
   | inr (a, b) ↦ there (subst test b t) (subst (λ (k : ℕ). bitOf k new ≡ 0) a z)
 ]
@@ -217,9 +218,9 @@ classified-none by zeros =
       secondDependents = λ A h. setOf-none (SecondDependent A) _;
     }
 
-pub classified-more : (rules : List Production) (p : ℕ) (d : Production) {old new : List ℕ} → p < length rules
-    → Classified (grammarIn rules p) old → Joined (ruleFrom (getD rules p d)) p old new → Classified (grammarIn rules (p + 1)) new
-classified-more rules p d {old} {new} there c j =
+pub classified-more : (rules : List ℕ) (p : ℕ) {old new : List ℕ} → p < length rules
+    → Classified (grammarIn rules p) old → Joined (packedRule (getD rules p 0)) p old new → Classified (grammarIn rules (p + 1)) new
+classified-more rules p {old} {new} there c j =
     record {
       own = λ A h.
           record {
@@ -239,29 +240,45 @@ classified-more rules p d {old} {new} there c j =
     before q l = omega (arith, length-take (p + 1) (rulesFrom rules), length-take p (rulesFrom rules), rules-length rules)
 
     more : (test : Rule → Type 0) (s : ℕ) → SetOf (grammarIn rules p) test (getD old s 0)
-        → (test (ruleFrom (getD rules p d)) → Has p new s) → SetOf (grammarIn rules (p + 1)) test (getD new s 0)
-    more test s so = setOf-more rules p d test (getD old s 0) (getD new s 0) so (j .kept s)
+        → (test (packedRule (getD rules p 0)) → Has p new s) → SetOf (grammarIn rules (p + 1)) test (getD new s 0)
+    more test s so = setOf-more rules p test (getD old s 0) (getD new s 0) so (j .kept s)
 
 -- The word productions: a rule more whose word is w, or is not.
-module _ (rules : List Production) (p : ℕ) (d : Production) (w : ℕ) {old new : ℕ} (so : SetOf (grammarIn rules p) (WordRule w) old)
-  where
-    pub word-taken : p < 64 → new ≡ bitOr old ((1 * 2 ^ p) % 2 ^ 64) → SetOf (grammarIn rules (p + 1)) (WordRule w) new
-    word-taken h e = setOf-more rules p d (WordRule w) old new so (λ q z. bits q z .0) (λ t z. power-there p (bits p z .1))
-      where
-        bits : (q : ℕ) → bitOf q new ≡ 0 → (bitOf q old ≡ 0) × (bitOf q (2 ^ p) ≡ 0)
-        bits q z = or-bits q old (2 ^ p) (sym (ap (bitOf q) (e ∙ ap (bitOr old) (one-shifted p 64 h))) ∙ z)
+module _ (rules : List ℕ) (p w : ℕ) {old new : ℕ} (so : SetOf (grammarIn rules p) (WordRule w) old) where
+  pub word-taken : p < 64 → new ≡ bitOr old ((1 * 2 ^ p) % 2 ^ 64) → SetOf (grammarIn rules (p + 1)) (WordRule w) new
+  word-taken h e = setOf-more rules p (WordRule w) old new so (λ q z. bits q z .0) (λ t z. power-there p (bits p z .1))
+    where
+      bits : (q : ℕ) → bitOf q new ≡ 0 → (bitOf q old ≡ 0) × (bitOf q (2 ^ p) ≡ 0)
+      bits q z = or-bits q old (2 ^ p) (sym (ap (bitOf q) (e ∙ ap (bitOr old) (one-shifted p 64 h))) ∙ z)
 
-    pub word-left : (WordRule w (ruleFrom (getD rules p d)) → ⊥) → new ≡ old → SetOf (grammarIn rules (p + 1)) (WordRule w) new
-    word-left other e = setOf-more rules p d (WordRule w) old new so (λ q z. sym (ap (bitOf q) e) ∙ z) (λ t z. other t)
+  pub word-left : (WordRule w (packedRule (getD rules p 0)) → ⊥) → new ≡ old → SetOf (grammarIn rules (p + 1)) (WordRule w) new
+  word-left other e = setOf-more rules p (WordRule w) old new so (λ q z. sym (ap (bitOf q) e) ∙ z) (λ t z. other t)
 
-pub other-word : {r : Production} {A x w : ℕ} → r ≡ Word A x → (x ≡ w → ⊥) → WordRule w (ruleFrom r) → ⊥
-other-word {w = w} e d t = d (sym (subst (λ (s : Production). WordRule w (ruleFrom s)) e t))
+-- A rule of another kind than 0, and one for another word.
+paired : (w kind A B C g : ℕ) → (kind ≡ 0 → ⊥) → WordRule w (ruleOf kind A B C g) → ⊥
+paired w zero A B C g d t = d refl
+paired w (suc zero) A B C g d t = t
+paired w (suc (suc zero)) A B C g d t = t
+paired w (suc (suc (suc zero))) A B C g d t = t
+paired w (suc (suc (suc (suc zero)))) A B C g d t = t
+paired w (suc (suc (suc (suc (suc zero))))) A B C g d t = t
+paired w (suc (suc (suc (suc (suc (suc kind)))))) A B C g d t =
+    let k = suc (suc (suc (suc (suc (suc kind))))) in
+    let other : (m : ℕ) → m < 6 → eqb k m ≡ false = λ m h. ne-eqb k m (omega arith) in
+    rw (other 0 (lit< tt), other 1 (lit< tt), other 2 (lit< tt), other 3 (lit< tt), other 4 (lit< tt), other 5 (lit< tt)) at t
 
-pub no-word : (w : ℕ) (r : Production) → (tagOf the-type r ≡ 1) ⊎ (tagOf the-type r ≡ 2) → WordRule w (ruleFrom r) → ⊥
-no-word w (Word A x) (inl e) t = omega arith
-no-word w (Word A x) (inr e) t = omega arith
-no-word w (SideFirst A a B D) k t = t
-no-word w (SideLast A a D B) k t = t
+pub other-kind : (w rule : ℕ) → (rule % 256 ≡ 0 → ⊥) → WordRule w (packedRule rule) → ⊥
+other-kind w rule d t =
+    paired w (rule % 256) (rule / 256 % 256) (rule / 65536 % 256) (rule / 16777216 % 256) (rule / 4294967296 % 256) d t
+
+ofWord : (w kind A B C g : ℕ) → kind ≡ 0 → WordRule w (ruleOf kind A B C g) → w ≡ B
+ofWord w kind A B C g e t = subst (λ (k : ℕ). WordRule w (ruleOf k A B C g)) e t
+
+pub other-word : (w word rule : ℕ) → word ≡ w → (rule / 65536 % 256 ≡ word → ⊥) → WordRule w (packedRule rule) → ⊥
+other-word w word rule e d t = elim (ℕ-discrete (rule % 256) 0) [
+  | yes z ↦ d (sym (ofWord w (rule % 256) (rule / 256 % 256) (rule / 65536 % 256) (rule / 16777216 % 256) (rule / 4294967296 % 256) z t) ∙ sym e)
+  | no n ↦ other-kind w rule n t
+]
 
 -- The splits of i to j below `to` that were looked at.
 abbrev pub MeetsTo : ℕ → List ℕ → ℕ → ℕ → ℕ → ℕ → Type 0

@@ -11,10 +11,9 @@ use Rattle.grammar.specs.Chart.{Record, IsChart}
 use Rattle.layout.specs.Bytes.{counted}
 use Rattle.layout.specs.Card.{cardNumber, grammarOf, production}
 use Rattle.layout.specs.Records.{chartBytes, capacity}
-use Rattle.card.specs.declared.Production.{Production}
 use Rattle.chart.specs.declared.Built.{Built}
 use Rattle.chart.specs.declared.Built.the-variants.{Chart, TooMany}
-use Rattle.chart.specs.Tables.{grammarIn, rulesFrom, RulesFit}
+use Rattle.chart.specs.Tables.{grammarIn, rulesFrom}
 
 -- An accepted card, and at most 24 words.
 pub record Buildable (card words : List ℕ) (n : ℕ) : Type 0 where
@@ -22,21 +21,22 @@ pub record Buildable (card words : List ℕ) (n : ℕ) : Type 0 where
   pub short : n ≤ 24
   pub given : n ≤ length words
 
--- A room for so many records; and tables for n words, all 0.
+-- A room for so many records; and tables for n words under N nonterminals, all 0.
 pub record RoomLent (room : ℕ) (chart : List ℕ) : Type 0 where
   pub small : room ≤ 65535
   pub there : 16 * room ≤ length chart
 
-pub record TablesLent (n : ℕ) (marks index sets : List ℕ) : Type 0 where
+pub record TablesLent (n N : ℕ) (marks index sets : List ℕ) : Type 0 where
   pub marksZero : marks ≡ replicate (length marks) 0
   pub indexZero : index ≡ replicate (length index) 0
   pub setsZero : sets ≡ replicate (length sets) 0
-  pub marksThere : 16 * n * n < length marks
-  pub indexThere : 3 * (n * n * 16) ≤ length index
+  pub marksThere : N * n * n < length marks
+  pub indexThere : 3 * (n * n * N) ≤ length index
   pub setsThere : 2 * (n * n) ≤ length sets
 
--- The card's first `many` productions, decoded, and word productions 0 → 0 after them.
-pub record DecodedAll (card : List ℕ) (many : ℕ) (rules : List Production) : Type 0 where
+-- The card's first `many` productions, packed, and word productions 0 → 0 after them.
+pub record DecodedAll (card : List ℕ) (many : ℕ) (rules : List ℕ) : Type 0 where
+  pub long : length rules ≡ 64
   pub decoded : grammarIn rules many ≡ map (production card) (counted 0 many)
   pub padded : (p : ℕ) (r : Rule) → many ≤ p → getElem? (rulesFrom rules) p ≡ some r → r ≡ Lexical 0 0
 

@@ -1,5 +1,5 @@
--- The sets beside the room: which productions have an element over a span; and the decoded productions as a grammar.
-use Prim.Native.Nat.{ℕ, zero, suc, _+_, _*_, _-_, _≤_, _<_}
+-- The sets beside the room: which productions have an element over a span; and the packed productions as a grammar.
+use Prim.Native.Nat.{ℕ, zero, suc, _+_, _*_, _-_, _/_, _%_, _≤_, _<_}
 use mathlib.Core.Path.{_≡_}
 use mathlib.Core.Bool.{Bool, true, false, cond, _&&_}
 use mathlib.Core.List.{List, [], _∷_}
@@ -9,9 +9,8 @@ use lib.ListN.{length, getD, getElem?, take}
 use Rattle.grammar.specs.Rewriting.{Rule, Lexical, Spine}
 use Rattle.grammar.specs.ItemList.{isBare}
 use Rattle.grammar.specs.Chart.{Record}
-use Rattle.card.specs.Productions.{ruleFrom}
-use Rattle.card.specs.declared.Production.{Production}
-use Rattle.chart_model.specs.Build.{places, barePlaces, byRule}
+use Rattle.layout.specs.Card.{ruleOf}
+use Rattle.chart_model.specs.Build.{places, barePlaces, byRuleOver}
 use Rattle.records.specs.Bits.{bitOf, holdsBit}
 use Rattle.records.specs.Room.{footThere, markSlot}
 use Rattle.records.specs.Index.{spanAt}
@@ -47,24 +46,34 @@ pub record OwnSet (g : List Rule) (A own : ℕ) : Type 0 where
   pub has : (p : ℕ) (r : Rule) → getElem? g p ≡ some r → bitOf p own ≡ 0 → leftIs A r → ⊥
   pub noMore : (p : ℕ) → length g ≤ p → bitOf p own ≡ 0
 
--- The rules of decoded productions, the first `many` of them as a grammar, and one of them.
-abbrev pub rulesFrom : List Production → List Rule
-rulesFrom [] = []
-rulesFrom (r ∷ rules) = ruleFrom r ∷ rulesFrom rules
+-- A production packed into one number, a byte for each of its kind, its left side, its two elements and its index. The rules of such
+-- numbers, and the first `many` of them as a grammar.
+abbrev pub packedRule : ℕ → Rule
+packedRule w = ruleOf (w % 256) (w / 256 % 256) (w / 65536 % 256) (w / 16777216 % 256) (w / 4294967296 % 256)
 
-abbrev pub grammarIn : List Production → ℕ → List Rule
+abbrev pub rulesFrom : List ℕ → List Rule
+rulesFrom [] = []
+rulesFrom (w ∷ rules) = packedRule w ∷ rulesFrom rules
+
+abbrev pub grammarIn : List ℕ → ℕ → List Rule
 grammarIn rules many = take many (rulesFrom rules)
 
-abbrev pub RulesFit : ℕ → List Production → Type 0
-RulesFit N rules = (p : ℕ) (r : Rule) → getElem? (rulesFrom rules) p ≡ some r → RuleFits N r
+pub record RulesFit (N : ℕ) (rules : List ℕ) : Type 0 where
+  pub long : length rules ≡ 64
+  pub fits : (p : ℕ) (r : Rule) → getElem? (rulesFrom rules) p ≡ some r → RuleFits N r
 
--- The records of production p at a split, if the set has it.
-abbrev pub byOne : List Record → ℕ → ℕ → ℕ → ℕ → ℕ → Option Rule → List Record
-byOne b A i k j p none = []
-byOne b A i k j p (some r) = byRule b A i k j p r
+-- The records of production p in a cell, if the set has it.
+abbrev pub byOne : (ℕ → ℕ → Bool) → List Record → ℕ → ℕ → ℕ → ℕ → Option Rule → List Record
+byOne at b A i len p none = []
+byOne at b A i len p (some r) = byRuleOver at b A i len p r
 
-abbrev pub chosen : ℕ → List Production → List Record → ℕ → ℕ → ℕ → ℕ → ℕ → List Record
-chosen set rules b A i k j p = cond (holdsBit p set) (byOne b A i k j p (getElem? (rulesFrom rules) p)) []
+abbrev pub chosen : ℕ → List ℕ → (ℕ → ℕ → Bool) → List Record → ℕ → ℕ → ℕ → ℕ → List Record
+chosen set rules at b A i len p = cond (holdsBit p set) (byOne at b A i len p (getElem? (rulesFrom rules) p)) []
+
+-- A production that is not in the set adds nothing to a cell; and the set has no bit past the last production.
+pub record CellSet (g : List Rule) (at : ℕ → ℕ → Bool) (b : List Record) (A i len set : ℕ) : Type 0 where
+  pub idle : (p : ℕ) (r : Rule) → getElem? g p ≡ some r → bitOf p set ≡ 0 → byRuleOver at b A i len p r ≡ []
+  pub noMore : (p : ℕ) → length g ≤ p → bitOf p set ≡ 0
 
 -- The word at the present place; and whether a rule is the word production of A for it.
 abbrev pub thisWord : ℕ → ℕ → ℕ → Bool

@@ -1,5 +1,4 @@
 // Cell by cell, span by span, length by length.
-use card::Production;
 use records::add::Sizes;
 use records::record::Cell;
 use records::record::wide;
@@ -9,39 +8,12 @@ ghost use mathlib.Core.Option.{some};
 ghost use Prim.Native.Nat.{ℕ, _+_, _-_, _*_, _≤_, _<_};
 ghost use lib.ListN.{length, getD, take};
 ghost use Rattle.grammar.specs.Input.{wordIs};
-ghost use Rattle.chart_model.specs.Build.{candidates, places, fillCell, closeSpan, closeLength, build};
-ghost use Rattle.records.specs.Room.{chartIn, Working, Added};
-ghost use Rattle.records.specs.Index.{Indexed};
-ghost use Rattle.chart.specs.Tables.{Sorted, OwnSet, grammarIn, RulesFit};
+ghost use Rattle.chart_model.specs.Build.{places, fillCell, closeSpan, closeLength, build};
+ghost use Rattle.records.specs.Room.{chartIn};
+ghost use Rattle.chart.specs.Tables.{CellSet, grammarIn, RulesFit};
 ghost use Rattle.chart.specs.Fill.{Classified, Between, Filled, OtherCell, OtherSpan, OtherLength, SpanSet, Closed};
 
-// The candidates of one cell.
-fn fill_items(
-    chart: &mut [u8],
-    marks: &mut [u8],
-    index: &[u16],
-    sets: &[u64],
-    z: Sizes,
-    c: Cell,
-    rules: [Production; 64],
-    many: usize,
-    own: u64,
-    words: &[u8; 24],
-    count: usize,
-) -> usize
-    requires { ⌜ Working (z .words) (z .symbols) (z .room) (c .left) (c .from) (c .to) (now chart) (now marks) count × (z .base ≡ count) × Indexed (z .words) (z .symbols) (chartIn (now chart) (z .base)) (now index) × RulesFit (z .symbols) rules × (c .from < c .to) × (c .to ≤ z .words) × (many ≤ 64) × Sorted (grammarIn rules many) (z .words) (chartIn (now chart) (z .base)) (now sets) × OwnSet (grammarIn rules many) (c .left) own × (z .words ≤ length (now words)) ⌝ }
-    ensures { λ r. ⌜ Added (z .words) (z .symbols) (z .room) (c .left) (c .from) (c .to) (candidates (grammarIn rules many) (wordIs (take (z .words) (now (words .entry)))) (chartIn (now (chart .entry)) count) (c .left) (c .from) (c .to - c .from)) (now (chart .entry)) (now (marks .entry)) count (now (chart .exit)) (now (marks .exit)) r ⌝ }
-{
-    let from = wide(c.from);
-    let to = wide(c.to);
-    if to - from == 1 {
-        let w = words[from];
-        return crate::cell::fill_words(chart, marks, z, c, rules, many, w, count);
-    }
-    crate::cell::fill_splits(chart, marks, index, sets, z, c, rules, many, own, count)
-}
-
-// One cell: its records, and then its place in the tables.
+// One cell: its records, and then its place in the tables. The set has every production that can add to it.
 fn fill_cell(
     chart: &mut [u8],
     marks: &mut [u8],
@@ -50,16 +22,16 @@ fn fill_cell(
     by: &[u64; 80],
     z: Sizes,
     c: Cell,
-    rules: [Production; 64],
+    rules: &[u64; 64],
     many: usize,
     words: &[u8; 24],
+    set: u64,
     count: usize,
 ) -> usize
-    requires { ⌜ Between (grammarIn rules many) (z .words) (z .symbols) (z .room) (now chart) (now marks) (now index) (now sets) count × (z .base ≡ count) × RulesFit (z .symbols) rules × Classified (grammarIn rules many) (now by) × (c .left < z .symbols) × (c .from < c .to) × (c .to ≤ z .words) × (many ≤ 64) × (places (chartIn (now chart) count) (c .left) (c .from) (c .to) ≡ []) × (z .words ≤ length (now words)) ⌝ }
-    ensures { λ r. ⌜ Filled (grammarIn rules many) (z .words) (z .symbols) (z .room) (OtherCell (c .left) (c .from) (c .to)) (fillCell (z .room) (grammarIn rules many) (wordIs (take (z .words) (now (words .entry)))) (c .to - c .from) (c .from) (c .left) (some (chartIn (now (chart .entry)) count))) (now (chart .entry)) count (now (chart .exit)) (now (marks .exit)) (now (index .exit)) (now (sets .exit)) r ⌝ }
+    requires { ⌜ Between (grammarIn (now rules) many) (z .words) (z .symbols) (z .room) (now chart) (now marks) (now index) (now sets) count × (z .base ≡ count) × RulesFit (z .symbols) (now rules) × Classified (grammarIn (now rules) many) (now by) × (c .left < z .symbols) × (c .from < c .to) × (c .to ≤ z .words) × (many ≤ 64) × (places (chartIn (now chart) count) (c .left) (c .from) (c .to) ≡ []) × CellSet (grammarIn (now rules) many) (wordIs (take (z .words) (now words))) (chartIn (now chart) count) (c .left) (c .from) (c .to - c .from) set × (z .words ≤ length (now words)) ⌝ }
+    ensures { λ r. ⌜ Filled (grammarIn (now (rules .entry)) many) (z .words) (z .symbols) (z .room) (OtherCell (c .left) (c .from) (c .to)) (fillCell (z .room) (grammarIn (now (rules .entry)) many) (wordIs (take (z .words) (now (words .entry)))) (c .to - c .from) (c .from) (c .left) (some (chartIn (now (chart .entry)) count))) (now (chart .entry)) count (now (chart .exit)) (now (marks .exit)) (now (index .exit)) (now (sets .exit)) r ⌝ }
 {
-    let own = by[wide(c.left)];
-    let now = fill_items(
+    let now = crate::cell::fill_items(
         chart,
         marks,
         index,
@@ -68,8 +40,8 @@ fn fill_cell(
         c,
         rules,
         many,
-        own,
         words,
+        set,
         count,
     );
     if z.room < now {
@@ -91,12 +63,12 @@ fn span_set(
     n: usize,
     i: usize,
     j: usize,
-    rules: [Production; 64],
+    rules: &[u64; 64],
     many: usize,
     words: &[u8; 24],
 ) -> u64
     requires { ⌜ (n ≤ 24) × (i < j) × (j ≤ n) × (2 * (n * n) ≤ length (now sets)) × (many ≤ 64) ⌝ }
-    ensures { λ r. ⌜ SpanSet (grammarIn rules many) n (now (sets .entry)) (now (words .entry)) i j r ⌝ }
+    ensures { λ r. ⌜ SpanSet (grammarIn (now (rules .entry)) many) n (now (sets .entry)) (now (words .entry)) i j r ⌝ }
 {
     if j - i == 1 {
         let w = words[i];
@@ -117,13 +89,13 @@ fn close_span(
     room: usize,
     i: usize,
     j: usize,
-    rules: [Production; 64],
+    rules: &[u64; 64],
     many: usize,
     words: &[u8; 24],
     count: usize,
 ) -> usize
-    requires { ⌜ Between (grammarIn rules many) n symbols room (now chart) (now marks) (now index) (now sets) count × RulesFit symbols rules × Classified (grammarIn rules many) (now by) × (i < j) × (j ≤ n) × (many ≤ 64) × ((A : ℕ) → places (chartIn (now chart) count) A i j ≡ []) × (n ≤ length (now words)) ⌝ }
-    ensures { λ r. ⌜ Filled (grammarIn rules many) n symbols room (OtherSpan i j) (closeSpan room (grammarIn rules many) (wordIs (take n (now (words .entry)))) symbols (j - i) i (some (chartIn (now (chart .entry)) count))) (now (chart .entry)) count (now (chart .exit)) (now (marks .exit)) (now (index .exit)) (now (sets .exit)) r ⌝ }
+    requires { ⌜ Between (grammarIn (now rules) many) n symbols room (now chart) (now marks) (now index) (now sets) count × RulesFit symbols (now rules) × Classified (grammarIn (now rules) many) (now by) × (i < j) × (j ≤ n) × (many ≤ 64) × ((A : ℕ) → places (chartIn (now chart) count) A i j ≡ []) × (n ≤ length (now words)) ⌝ }
+    ensures { λ r. ⌜ Filled (grammarIn (now (rules .entry)) many) n symbols room (OtherSpan i j) (closeSpan room (grammarIn (now (rules .entry)) many) (wordIs (take n (now (words .entry)))) symbols (j - i) i (some (chartIn (now (chart .entry)) count))) (now (chart .entry)) count (now (chart .exit)) (now (marks .exit)) (now (index .exit)) (now (sets .exit)) r ⌝ }
 {
     let set = span_set(sets, n, i, j, rules, many, words);
     if set == 0 {
@@ -132,7 +104,8 @@ fn close_span(
     let mut a = 0;
     let mut now = count;
     while a < symbols {
-        if by[a] & set != 0 {
+        let own = by[a] & set;
+        if own != 0 {
             let z = Sizes {
                 words: n,
                 symbols,
@@ -144,7 +117,20 @@ fn close_span(
                 from: i as u8,
                 to: j as u8,
             };
-            now = fill_cell(chart, marks, index, sets, by, z, c, rules, many, words, now);
+            now = fill_cell(
+                chart,
+                marks,
+                index,
+                sets,
+                by,
+                z,
+                c,
+                rules,
+                many,
+                words,
+                own,
+                now,
+            );
             if room < now {
                 return now;
             }
@@ -165,13 +151,13 @@ fn close_length(
     symbols: usize,
     room: usize,
     len: usize,
-    rules: [Production; 64],
+    rules: &[u64; 64],
     many: usize,
     words: &[u8; 24],
     count: usize,
 ) -> usize
-    requires { ⌜ Between (grammarIn rules many) n symbols room (now chart) (now marks) (now index) (now sets) count × RulesFit symbols rules × Classified (grammarIn rules many) (now by) × (len < n) × (many ≤ 64) × ((A i : ℕ) → places (chartIn (now chart) count) A i (i + (len + 1)) ≡ []) × (n ≤ length (now words)) ⌝ }
-    ensures { λ r. ⌜ Filled (grammarIn rules many) n symbols room (OtherLength (len + 1)) (closeLength room (grammarIn rules many) (wordIs (take n (now (words .entry)))) symbols n len (some (chartIn (now (chart .entry)) count))) (now (chart .entry)) count (now (chart .exit)) (now (marks .exit)) (now (index .exit)) (now (sets .exit)) r ⌝ }
+    requires { ⌜ Between (grammarIn (now rules) many) n symbols room (now chart) (now marks) (now index) (now sets) count × RulesFit symbols (now rules) × Classified (grammarIn (now rules) many) (now by) × (len < n) × (many ≤ 64) × ((A i : ℕ) → places (chartIn (now chart) count) A i (i + (len + 1)) ≡ []) × (n ≤ length (now words)) ⌝ }
+    ensures { λ r. ⌜ Filled (grammarIn (now (rules .entry)) many) n symbols room (OtherLength (len + 1)) (closeLength room (grammarIn (now (rules .entry)) many) (wordIs (take n (now (words .entry)))) symbols n len (some (chartIn (now (chart .entry)) count))) (now (chart .entry)) count (now (chart .exit)) (now (marks .exit)) (now (index .exit)) (now (sets .exit)) r ⌝ }
 {
     let mut i = 0;
     let mut now = count;
@@ -210,12 +196,12 @@ pub fn close_all(
     n: usize,
     symbols: usize,
     room: usize,
-    rules: [Production; 64],
+    rules: &[u64; 64],
     many: usize,
     words: &[u8; 24],
 ) -> usize
-    requires { ⌜ Between (grammarIn rules many) n symbols room (now chart) (now marks) (now index) (now sets) 0 × RulesFit symbols rules × Classified (grammarIn rules many) (now by) × (many ≤ 64) × (n ≤ length (now words)) ⌝ }
-    ensures { λ r. ⌜ Closed room (build room (grammarIn rules many) (wordIs (take n (now (words .entry)))) symbols n) (now (chart .entry)) (now (chart .exit)) r ⌝ }
+    requires { ⌜ Between (grammarIn (now rules) many) n symbols room (now chart) (now marks) (now index) (now sets) 0 × RulesFit symbols (now rules) × Classified (grammarIn (now rules) many) (now by) × (many ≤ 64) × (n ≤ length (now words)) ⌝ }
+    ensures { λ r. ⌜ Closed room (build room (grammarIn (now (rules .entry)) many) (wordIs (take n (now (words .entry)))) symbols n) (now (chart .entry)) (now (chart .exit)) r ⌝ }
 {
     let mut len = 0;
     let mut now = 0;

@@ -9,119 +9,44 @@ use records::record::Step;
 use records::record::wide;
 ghost use mathlib.Core.Path.{_≡_};
 ghost use Prim.Native.Nat.{_+_, _-_, _≤_, _<_};
-ghost use lib.ListN.{length};
+ghost use lib.ListN.{length, getD, take};
+ghost use Rattle.grammar.specs.Input.{wordIs};
 ghost use Rattle.card.specs.Productions.{ruleFrom};
-ghost use Rattle.chart_model.specs.Build.{flatUp, atSplit, byWord};
+ghost use Rattle.chart_model.specs.Build.{byWord, acrossSplits, byRuleOver, candidates};
 ghost use Rattle.records.specs.Room.{chartIn, Working, Added};
 ghost use Rattle.records.specs.Index.{Indexed};
-ghost use Rattle.chart.specs.Tables.{Sorted, OwnSet, grammarIn, RulesFit, chosen, thisWord, isWordOf, Finished};
+ghost use Rattle.chart.specs.Tables.{Sorted, CellSet, packedRule, grammarIn, RulesFit, thisWord, isWordOf, Finished};
 
-// The productions of a set at one split. Bit p of the set is for production p.
-fn at_split(
-    chart: &mut [u8],
-    marks: &mut [u8],
-    index: &[u16],
-    z: Sizes,
-    c: Cell,
-    rules: [Production; 64],
-    set: u64,
-    k: u8,
-    count: usize,
-) -> usize
-    requires { ⌜ Working (z .words) (z .symbols) (z .room) (c .left) (c .from) (c .to) (now chart) (now marks) count × (z .base ≤ count) × Indexed (z .words) (z .symbols) (chartIn (now chart) (z .base)) (now index) × RulesFit (z .symbols) rules × (c .from < k) × (k < c .to) × (c .to ≤ z .words) ⌝ }
-    ensures { λ r. ⌜ Added (z .words) (z .symbols) (z .room) (c .left) (c .from) (c .to) (flatUp (chosen set rules (chartIn (now (chart .entry)) (z .base)) (c .left) (c .from) k (c .to)) 0 64) (now (chart .entry)) (now (marks .entry)) count (now (chart .exit)) (now (marks .exit)) r ⌝ }
-{
-    let mut left = set;
-    let mut p = 0;
-    let mut now = count;
-    while left != 0 {
-        if left % 2 == 1 {
-            let rule = rules[p];
-            now = steps::step::by_production(chart, marks, index, z, c, k, p as u8, rule, now);
-            if z.room < now {
-                return now;
-            }
-        }
-        left = left / 2;
-        p += 1;
-    }
-    now
-}
-
-// Every split of the span, with those productions of `own`, the cell's nonterminal's, whose two elements are there.
-pub fn fill_splits(
-    chart: &mut [u8],
-    marks: &mut [u8],
-    index: &[u16],
-    sets: &[u64],
-    z: Sizes,
-    c: Cell,
-    rules: [Production; 64],
-    many: usize,
-    own: u64,
-    count: usize,
-) -> usize
-    requires { ⌜ Working (z .words) (z .symbols) (z .room) (c .left) (c .from) (c .to) (now chart) (now marks) count × (z .base ≤ count) × Indexed (z .words) (z .symbols) (chartIn (now chart) (z .base)) (now index) × RulesFit (z .symbols) rules × (c .from < c .to) × (c .to ≤ z .words) × (many ≤ 64) × Sorted (grammarIn rules many) (z .words) (chartIn (now chart) (z .base)) (now sets) × OwnSet (grammarIn rules many) (c .left) own ⌝ }
-    ensures { λ r. ⌜ Added (z .words) (z .symbols) (z .room) (c .left) (c .from) (c .to) (flatUp (atSplit (grammarIn rules many) (chartIn (now (chart .entry)) (z .base)) (c .left) (c .from) (c .to)) (c .from + 1) (c .to - c .from - 1)) (now (chart .entry)) (now (marks .entry)) count (now (chart .exit)) (now (marks .exit)) r ⌝ }
-{
-    let i = wide(c.from);
-    let j = wide(c.to);
-    let mut k = i + 1;
-    let mut now = count;
-    while k < j {
-        let first = sets[2 * records::index::span_at(z.words, i, k)];
-        let second = sets[2 * records::index::span_at(z.words, k, j) + 1];
-        let set = first & second & own;
-        if set != 0 {
-            now = at_split(chart, marks, index, z, c, rules, set, k as u8, now);
-            if z.room < now {
-                return now;
-            }
-        }
-        k += 1;
-    }
-    now
-}
-
-// The word productions at a place with word w.
-pub fn fill_words(
+// What production p adds at a place with word w.
+fn at_word(
     chart: &mut [u8],
     marks: &mut [u8],
     z: Sizes,
     c: Cell,
-    rules: [Production; 64],
-    many: usize,
+    p: usize,
+    rule: Production,
     w: u8,
     count: usize,
 ) -> usize
-    requires { ⌜ Working (z .words) (z .symbols) (z .room) (c .left) (c .from) (c .to) (now chart) (now marks) count × (z .base ≤ count) × (many ≤ 64) × (c .to ≡ c .from + 1) ⌝ }
-    ensures { λ r. ⌜ Added (z .words) (z .symbols) (z .room) (c .left) (c .from) (c .to) (flatUp (byWord (grammarIn rules many) (thisWord w) (c .left) (c .from)) 0 many) (now (chart .entry)) (now (marks .entry)) count (now (chart .exit)) (now (marks .exit)) r ⌝ }
+    requires { ⌜ Working (z .words) (z .symbols) (z .room) (c .left) (c .from) (c .to) (now chart) (now marks) count × (c .to ≡ c .from + 1) × (p < 64) ⌝ }
+    ensures { λ r. ⌜ Added (z .words) (z .symbols) (z .room) (c .left) (c .from) (c .to) (byWord (thisWord w) (c .left) (c .from) p (ruleFrom rule)) (now (chart .entry)) (now (marks .entry)) count (now (chart .exit)) (now (marks .exit)) r ⌝ }
 {
-    let mut p = 0;
-    let mut now = count;
-    while p < many {
-        let rule = rules[p];
-        if is_word(rule, c.left, w) {
-            let f = Foot {
-                index: 0,
-                symbol: 255,
-                from: 0,
-                to: 0,
-            };
-            let step = Step {
-                production: p as u8,
-                side: NOWHERE,
-                dependent: NOWHERE,
-                continuation: NOWHERE,
-            };
-            now = records::add::add(chart, marks, z, c, f, step, now);
-            if z.room < now {
-                return now;
-            }
-        }
-        p += 1;
+    if is_word(rule, c.left, w) {
+        let f = Foot {
+            index: 0,
+            symbol: 255,
+            from: 0,
+            to: 0,
+        };
+        let step = Step {
+            production: p as u8,
+            side: NOWHERE,
+            dependent: NOWHERE,
+            continuation: NOWHERE,
+        };
+        return records::add::add(chart, marks, z, c, f, step, count);
     }
-    now
+    count
 }
 
 // Is the rule the word production of a nonterminal for a word?
@@ -148,6 +73,113 @@ fn is_word(rule: Production, a: u8, w: u8) -> bool
             side: _,
         } => false,
     }
+}
+
+// What production p adds at every split of the span. Bit p of a set is for production p: where it is not in both sets of a split, an
+// element is missing there.
+fn across_splits(
+    chart: &mut [u8],
+    marks: &mut [u8],
+    index: &[u16],
+    sets: &[u64],
+    z: Sizes,
+    c: Cell,
+    rules: &[u64; 64],
+    many: usize,
+    p: usize,
+    count: usize,
+) -> usize
+    requires { ⌜ Working (z .words) (z .symbols) (z .room) (c .left) (c .from) (c .to) (now chart) (now marks) count × (z .base ≤ count) × Indexed (z .words) (z .symbols) (chartIn (now chart) (z .base)) (now index) × RulesFit (z .symbols) (now rules) × (c .from < c .to) × (c .to ≤ z .words) × (many ≤ 64) × (p < many) × Sorted (grammarIn (now rules) many) (z .words) (chartIn (now chart) (z .base)) (now sets) ⌝ }
+    ensures { λ r. ⌜ Added (z .words) (z .symbols) (z .room) (c .left) (c .from) (c .to) (acrossSplits (chartIn (now (chart .entry)) (z .base)) (c .left) (c .from) (c .to) p (packedRule (getD (now (rules .entry)) p 0))) (now (chart .entry)) (now (marks .entry)) count (now (chart .exit)) (now (marks .exit)) r ⌝ }
+{
+    let rule = crate::rules::rule_at(rules, p);
+    let bit = 1u64 << p;
+    let i = wide(c.from);
+    let j = wide(c.to);
+    let mut k = i + 1;
+    let mut now = count;
+    while k < j {
+        let first = sets[2 * records::index::span_at(z.words, i, k)];
+        let second = sets[2 * records::index::span_at(z.words, k, j) + 1];
+        if first & second & bit != 0 {
+            now = steps::step::by_production(
+                chart,
+                marks,
+                index,
+                z,
+                c,
+                k as u8,
+                p as u8,
+                rule,
+                now,
+            );
+            if z.room < now {
+                return now;
+            }
+        }
+        k += 1;
+    }
+    now
+}
+
+// What production p adds to the cell.
+fn by_rule(
+    chart: &mut [u8],
+    marks: &mut [u8],
+    index: &[u16],
+    sets: &[u64],
+    z: Sizes,
+    c: Cell,
+    rules: &[u64; 64],
+    many: usize,
+    words: &[u8; 24],
+    p: usize,
+    count: usize,
+) -> usize
+    requires { ⌜ Working (z .words) (z .symbols) (z .room) (c .left) (c .from) (c .to) (now chart) (now marks) count × (z .base ≤ count) × Indexed (z .words) (z .symbols) (chartIn (now chart) (z .base)) (now index) × RulesFit (z .symbols) (now rules) × (c .from < c .to) × (c .to ≤ z .words) × (many ≤ 64) × (p < many) × Sorted (grammarIn (now rules) many) (z .words) (chartIn (now chart) (z .base)) (now sets) × (z .words ≤ length (now words)) ⌝ }
+    ensures { λ r. ⌜ Added (z .words) (z .symbols) (z .room) (c .left) (c .from) (c .to) (byRuleOver (wordIs (take (z .words) (now (words .entry)))) (chartIn (now (chart .entry)) (z .base)) (c .left) (c .from) (c .to - c .from) p (packedRule (getD (now (rules .entry)) p 0))) (now (chart .entry)) (now (marks .entry)) count (now (chart .exit)) (now (marks .exit)) r ⌝ }
+{
+    let from = wide(c.from);
+    let to = wide(c.to);
+    if to - from == 1 {
+        let rule = crate::rules::rule_at(rules, p);
+        let w = words[from];
+        return at_word(chart, marks, z, c, p, rule, w, count);
+    }
+    across_splits(chart, marks, index, sets, z, c, rules, many, p, count)
+}
+
+// The candidates of the cell, production by production of a set that has all that can add to it.
+pub fn fill_items(
+    chart: &mut [u8],
+    marks: &mut [u8],
+    index: &[u16],
+    sets: &[u64],
+    z: Sizes,
+    c: Cell,
+    rules: &[u64; 64],
+    many: usize,
+    words: &[u8; 24],
+    set: u64,
+    count: usize,
+) -> usize
+    requires { ⌜ Working (z .words) (z .symbols) (z .room) (c .left) (c .from) (c .to) (now chart) (now marks) count × (z .base ≤ count) × Indexed (z .words) (z .symbols) (chartIn (now chart) (z .base)) (now index) × RulesFit (z .symbols) (now rules) × (c .from < c .to) × (c .to ≤ z .words) × (many ≤ 64) × CellSet (grammarIn (now rules) many) (wordIs (take (z .words) (now words))) (chartIn (now chart) (z .base)) (c .left) (c .from) (c .to - c .from) set × Sorted (grammarIn (now rules) many) (z .words) (chartIn (now chart) (z .base)) (now sets) × (z .words ≤ length (now words)) ⌝ }
+    ensures { λ r. ⌜ Added (z .words) (z .symbols) (z .room) (c .left) (c .from) (c .to) (candidates (grammarIn (now (rules .entry)) many) (wordIs (take (z .words) (now (words .entry)))) (chartIn (now (chart .entry)) (z .base)) (c .left) (c .from) (c .to - c .from)) (now (chart .entry)) (now (marks .entry)) count (now (chart .exit)) (now (marks .exit)) r ⌝ }
+{
+    let mut left = set;
+    let mut p = 0;
+    let mut now = count;
+    while left != 0 {
+        let skip = u64::trailing_zeros(left);
+        p += skip as usize;
+        now = by_rule(chart, marks, index, sets, z, c, rules, many, words, p, now);
+        if z.room < now {
+            return now;
+        }
+        left = (left >> skip) / 2;
+        p += 1;
+    }
+    now
 }
 
 // The cell is filled: its marks are taken back, and where its records stand is known.

@@ -50,31 +50,32 @@ fn class_one(by: &mut [u64; 80], rule: Production, p: usize)
 }
 
 // The sets of every nonterminal.
-pub fn classify(rules: [Production; 64], many: usize) -> [u64; 80]
-    requires { ⌜ (many ≤ 64) × RulesFit 16 rules ⌝ }
-    ensures { λ r. ⌜ Classified (grammarIn rules many) r ⌝ }
+pub fn classify(rules: &[u64; 64], many: usize) -> [u64; 80]
+    requires { ⌜ (many ≤ 64) × RulesFit 16 (now rules) ⌝ }
+    ensures { λ r. ⌜ Classified (grammarIn (now (rules .entry)) many) r ⌝ }
 {
     let mut by = [0u64; 80];
     let mut p = 0;
     while p < many {
-        let rule = rules[p];
+        let rule = crate::rules::rule_at(rules, p);
         class_one(&mut by, rule, p);
         p += 1;
     }
     by
 }
 
-// The word productions for w.
-pub fn word_set(rules: [Production; 64], many: usize, w: u8) -> u64
+// The word productions for w: kind 0, and w as the third number.
+pub fn word_set(rules: &[u64; 64], many: usize, w: u8) -> u64
     requires { ⌜ many ≤ 64 ⌝ }
-    ensures { λ r. ⌜ SetOf (grammarIn rules many) (WordRule w) r ⌝ }
+    ensures { λ r. ⌜ SetOf (grammarIn (now (rules .entry)) many) (WordRule w) r ⌝ }
 {
+    let word = w as u64;
     let mut set = 0u64;
     let mut p = 0;
     while p < many {
         let rule = rules[p];
-        if let Production::Word { left: _, word } = rule {
-            if word == w {
+        if rule % 256 == 0 {
+            if rule / 65536 % 256 == word {
                 set = set | (1u64 << p);
             }
         }

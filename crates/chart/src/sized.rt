@@ -1,4 +1,5 @@
-// The tables beside the room, on the stack. Short lines get short tables, so that clearing them costs little.
+// The tables beside the room, on the stack. Their size goes by the words and by the cells, n * n for each nonterminal, so that
+// clearing them costs little where little is needed.
 use card::Card;
 ghost use mathlib.Core.Path.{_≡_};
 ghost use Prim.Native.Nat.{_+_, _*_, _≤_, _<_};
@@ -9,7 +10,7 @@ ghost use Rattle.chart_model.specs.Build.{build};
 ghost use Rattle.chart.specs.Built.{Buildable, RoomLent, TablesLent};
 ghost use Rattle.chart.specs.Fill.{Closed};
 
-// With tables that are all 0 and long enough for n words.
+// With tables that are all 0 and long enough.
 fn build_with(
     card: &[u8],
     words: &[u8; 24],
@@ -20,14 +21,14 @@ fn build_with(
     index: &mut [u16],
     sets: &mut [u64],
 ) -> usize
-    requires { ⌜ Buildable (now card) (now words) n × RoomLent room (now chart) × TablesLent n (now marks) (now index) (now sets) ⌝ }
+    requires { ⌜ Buildable (now card) (now words) n × RoomLent room (now chart) × TablesLent n (nonterminalCount (now card)) (now marks) (now index) (now sets) ⌝ }
     ensures { λ r. ⌜ Closed room (build room (grammarOf (now (card .entry))) (wordIs (take n (now (words .entry)))) (nonterminalCount (now (card .entry))) n) (now (chart .entry)) (now (chart .exit)) r ⌝ }
 {
     let counts = Card::of(card);
     let many = counts.productions;
     let symbols = counts.nonterminals;
     let rules = crate::rules::decode_all(card, many);
-    let by = crate::sets::classify(rules, many);
+    let by = crate::sets::classify(&rules, many);
     crate::build::close_all(
         chart,
         marks,
@@ -37,14 +38,33 @@ fn build_with(
         n,
         symbols,
         room,
-        rules,
+        &rules,
         many,
         words,
     )
 }
 
+fn build_least(card: &[u8], words: &[u8; 24], n: usize, room: usize, chart: &mut [u8]) -> usize
+    requires { ⌜ Buildable (now card) (now words) n × RoomLent room (now chart) × (n ≤ 4) × (n * n * nonterminalCount (now card) ≤ 96) ⌝ }
+    ensures { λ r. ⌜ Closed room (build room (grammarOf (now (card .entry))) (wordIs (take n (now (words .entry)))) (nonterminalCount (now (card .entry))) n) (now (chart .entry)) (now (chart .exit)) r ⌝ }
+{
+    let mut marks = [0u8; 97];
+    let mut index = [0u16; 288];
+    let mut sets = [0u64; 32];
+    build_with(
+        card,
+        words,
+        n,
+        room,
+        chart,
+        &mut marks,
+        &mut index,
+        &mut sets,
+    )
+}
+
 fn build_short(card: &[u8], words: &[u8; 24], n: usize, room: usize, chart: &mut [u8]) -> usize
-    requires { ⌜ Buildable (now card) (now words) n × RoomLent room (now chart) × (n ≤ 6) ⌝ }
+    requires { ⌜ Buildable (now card) (now words) n × RoomLent room (now chart) × (n ≤ 6) × (n * n * nonterminalCount (now card) ≤ 576) ⌝ }
     ensures { λ r. ⌜ Closed room (build room (grammarOf (now (card .entry))) (wordIs (take n (now (words .entry)))) (nonterminalCount (now (card .entry))) n) (now (chart .entry)) (now (chart .exit)) r ⌝ }
 {
     let mut marks = [0u8; 577];
@@ -62,8 +82,27 @@ fn build_short(card: &[u8], words: &[u8; 24], n: usize, room: usize, chart: &mut
     )
 }
 
+fn build_middle_few(card: &[u8], words: &[u8; 24], n: usize, room: usize, chart: &mut [u8]) -> usize
+    requires { ⌜ Buildable (now card) (now words) n × RoomLent room (now chart) × (n ≤ 12) × (n * n * nonterminalCount (now card) ≤ 864) ⌝ }
+    ensures { λ r. ⌜ Closed room (build room (grammarOf (now (card .entry))) (wordIs (take n (now (words .entry)))) (nonterminalCount (now (card .entry))) n) (now (chart .entry)) (now (chart .exit)) r ⌝ }
+{
+    let mut marks = [0u8; 865];
+    let mut index = [0u16; 2592];
+    let mut sets = [0u64; 288];
+    build_with(
+        card,
+        words,
+        n,
+        room,
+        chart,
+        &mut marks,
+        &mut index,
+        &mut sets,
+    )
+}
+
 fn build_middle(card: &[u8], words: &[u8; 24], n: usize, room: usize, chart: &mut [u8]) -> usize
-    requires { ⌜ Buildable (now card) (now words) n × RoomLent room (now chart) × (n ≤ 12) ⌝ }
+    requires { ⌜ Buildable (now card) (now words) n × RoomLent room (now chart) × (n ≤ 12) × (n * n * nonterminalCount (now card) ≤ 2304) ⌝ }
     ensures { λ r. ⌜ Closed room (build room (grammarOf (now (card .entry))) (wordIs (take n (now (words .entry)))) (nonterminalCount (now (card .entry))) n) (now (chart .entry)) (now (chart .exit)) r ⌝ }
 {
     let mut marks = [0u8; 2305];
@@ -81,8 +120,27 @@ fn build_middle(card: &[u8], words: &[u8; 24], n: usize, room: usize, chart: &mu
     )
 }
 
+fn build_long_few(card: &[u8], words: &[u8; 24], n: usize, room: usize, chart: &mut [u8]) -> usize
+    requires { ⌜ Buildable (now card) (now words) n × RoomLent room (now chart) × (n ≤ 24) × (n * n * nonterminalCount (now card) ≤ 3456) ⌝ }
+    ensures { λ r. ⌜ Closed room (build room (grammarOf (now (card .entry))) (wordIs (take n (now (words .entry)))) (nonterminalCount (now (card .entry))) n) (now (chart .entry)) (now (chart .exit)) r ⌝ }
+{
+    let mut marks = [0u8; 3457];
+    let mut index = [0u16; 10368];
+    let mut sets = [0u64; 1152];
+    build_with(
+        card,
+        words,
+        n,
+        room,
+        chart,
+        &mut marks,
+        &mut index,
+        &mut sets,
+    )
+}
+
 fn build_long(card: &[u8], words: &[u8; 24], n: usize, room: usize, chart: &mut [u8]) -> usize
-    requires { ⌜ Buildable (now card) (now words) n × RoomLent room (now chart) ⌝ }
+    requires { ⌜ Buildable (now card) (now words) n × RoomLent room (now chart) × (n ≤ 24) × (n * n * nonterminalCount (now card) ≤ 9216) ⌝ }
     ensures { λ r. ⌜ Closed room (build room (grammarOf (now (card .entry))) (wordIs (take n (now (words .entry)))) (nonterminalCount (now (card .entry))) n) (now (chart .entry)) (now (chart .exit)) r ⌝ }
 {
     let mut marks = [0u8; 9217];
@@ -104,11 +162,24 @@ pub fn build_in(card: &[u8], words: &[u8; 24], n: usize, room: usize, chart: &mu
     requires { ⌜ Buildable (now card) (now words) n × RoomLent room (now chart) ⌝ }
     ensures { λ r. ⌜ Closed room (build room (grammarOf (now (card .entry))) (wordIs (take n (now (words .entry)))) (nonterminalCount (now (card .entry))) n) (now (chart .entry)) (now (chart .exit)) r ⌝ }
 {
+    let symbols = Card::of(card).nonterminals;
+    let cells = n * n * symbols;
+    if n <= 4 {
+        if cells <= 96 {
+            return build_least(card, words, n, room, chart);
+        }
+    }
     if n <= 6 {
         return build_short(card, words, n, room, chart);
     }
     if n <= 12 {
+        if cells <= 864 {
+            return build_middle_few(card, words, n, room, chart);
+        }
         return build_middle(card, words, n, room, chart);
+    }
+    if cells <= 3456 {
+        return build_long_few(card, words, n, room, chart);
     }
     build_long(card, words, n, room, chart)
 }

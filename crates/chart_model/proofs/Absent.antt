@@ -1,6 +1,6 @@
 -- A cell has no candidates where no rule makes any: none for its word, and none at any split of its span.
 -- And a rule makes none of a dependent that is not there. Each list is empty since each of its parts is.
-use Prim.Native.Nat.{ℕ, zero, suc, _+_, _≤_, _<_}
+use Prim.Native.Nat.{ℕ, zero, suc, _+_, _-_, _≤_, _<_}
 use native.Mathlib.Nat.{zero-add}
 use native.Mathlib.Decide.{ℕ-discrete}
 use native.Mathlib.Omega.{arith}
@@ -12,7 +12,7 @@ use lib.ListN.{length, getElem?}
 use Rattle.grammar.specs.Lists.{concatMap}
 use Rattle.grammar.specs.Rewriting.{Rule, Action, Take, Keep, Give}
 use Rattle.grammar.specs.Chart.{Record}
-use Rattle.chart_model.specs.Build.{flatUp, places, byAction, byRule, byProduction, atSplit, byWordRule, byWord, candidates}
+use Rattle.chart_model.specs.Build.{flatUp, places, byAction, byRule, ruleAt, acrossSplits, byRuleOver, byProduction, candidates}
 
 pub concatMap-none : {A B : Type 0} (f : A → List B) (l : List A) → ((x : A) → f x ≡ []) → concatMap f l ≡ []
 concatMap-none f [] h = refl
@@ -58,16 +58,13 @@ action-none c (Take γ) D k m A i j p x e = rw e
 action-none c Keep D k m A i j p x e = rw e
 action-none c (Give γ) D k m A i j p x e = rw e
 
-module _ (g : List Rule) (at : ℕ → ℕ → Bool) (c : List Record) (A i : ℕ) where
-  pub words-none : ((p : ℕ) (r : Rule) → getElem? g p ≡ some r → byWordRule at A i p r ≡ []) → candidates g at c A i 1 ≡ []
-  words-none h =
-      flatUp-none (byWord g at A i) 0 (length g) (λ p a b. option-none (byWordRule at A i p) (getElem? g p) (λ r e. h p r e))
+-- A production adds nothing over a span where it has nothing at any split; and a cell has no candidates where no production adds any.
+pub splits-none : (c : List Record) (A i j p : ℕ) (r : Rule) → ((k : ℕ) → i < k → k < j → byRule c A i k j p r ≡ [])
+    → acrossSplits c A i j p r ≡ []
+splits-none c A i j p r h = flatUp-none (ruleAt c A i j p r) (suc i) (j - suc i) (λ k a b. h k a (omega arith))
 
-  pub splits-none : (len : ℕ)
-      → ((k p : ℕ) (r : Rule) → i < k → k < i + suc (suc len) → getElem? g p ≡ some r → byRule c A i k (i + suc (suc len)) p r ≡ [])
-      → candidates g at c A i (suc (suc len)) ≡ []
-  splits-none len h =
-      let j = i + suc (suc len) in
-      flatUp-none (atSplit g c A i j) (suc i) (suc len)
-      (λ k a b. flatUp-none (byProduction g c A i k j) 0 (length g)
-      (λ p _ _. option-none (byRule c A i k j p) (getElem? g p) (λ r e. h k p r a (omega arith) e)))
+pub candidates-none : (g : List Rule) (at : ℕ → ℕ → Bool) (c : List Record) (A i len : ℕ)
+    → ((p : ℕ) (r : Rule) → getElem? g p ≡ some r → byRuleOver at c A i len p r ≡ []) → candidates g at c A i len ≡ []
+candidates-none g at c A i len h =
+    flatUp-none (byProduction g at c A i len) 0 (length g)
+    (λ p a b. option-none (byRuleOver at c A i len p) (getElem? g p) (λ r e. h p r e))

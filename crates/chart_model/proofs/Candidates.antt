@@ -1,6 +1,6 @@
 -- A candidate is justified, since what it names stands in the chart at the positions that the model looks up. And a cell's candidates
 -- leave out none of its derived items, if the chart has every derived item of fewer words: all antecedents are such.
-use Prim.Native.Nat.{ℕ, zero, suc, _+_, _<_}
+use Prim.Native.Nat.{ℕ, zero, suc, _+_, _-_, _<_}
 use native.Mathlib.Omega.{arith}
 use mathlib.Core.Path.{_≡_, refl, sym, _∙_, ap, subst}
 use mathlib.Core.Bool.{Bool, true, _&&_, false≢true, and-eq-true-iff}
@@ -23,7 +23,7 @@ use Rattle.grammar.proofs.Unfolding.{derived-longer}
 use Rattle.grammar.proofs.ItemTests.{in-choice, choice-in}
 use Rattle.grammar.proofs.ItemSteps.{Makes}
 use Rattle.grammar.proofs.ItemSteps
-use Rattle.chart_model.specs.Build.{isOf, isBareOf, places, barePlaces, footIn, footAt, takenFrom, keptFrom, continued, givenFoot, givenFrom, byAction, byRule, byProduction, atSplit, byWordRule, byWord, candidates}
+use Rattle.chart_model.specs.Build.{isOf, isBareOf, places, barePlaces, footIn, footAt, takenFrom, keptFrom, continued, givenFoot, givenFrom, byAction, byRule, ruleAt, acrossSplits, byWord, byRuleOver, byProduction, candidates}
 use Rattle.chart_model.proofs.BuildLaws.{Has, in-flatUp, flatUp-in, in-placesAll, placesAll-in, in-option, option-in, map-wider}
 
 -- A record before the end.
@@ -164,38 +164,45 @@ module _ (g : List Rule) (at : ℕ → ℕ → Bool) (c : List Record) (A i : �
       last s x (acted y z) = sideLast s y x z
   in-byRule k j p (Spine A′ a [] D (B ∷ C ∷ after)) s h = absurd (List·Memᴰ·not-nil h)
 
-  in-byWordRule : {e : Record} (p : ℕ) (r : Rule) → Stands g p r → List·Memᴰ e (byWordRule at A i p r)
+  in-byWord : {e : Record} (p : ℕ) (r : Rule) → Stands g p r → List·Memᴰ e (byWord at A i p r)
       → Justified g (Holds at) c (length c) e
-  in-byWordRule p (Lexical A′ w) s h =
+  in-byWord p (Lexical A′ w) s h =
       let (t, f) = in-only (eqb A′ A && at i w) h in
       let (t₁, t₂) = and-eq-true-iff (eqb A′ A) _ .0 t in
       let s′ = subst (λ (X : ℕ). Stands g p (Lexical X w)) (eqb-true A′ A t₁) s in
       subst (Justified g (Holds at) c (length c)) (sym f) (Chart.byWord s′ t₂)
-  in-byWordRule p (Spine A′ a before D after) s h = absurd (List·Memᴰ·not-nil h)
+  in-byWord p (Spine A′ a before D after) s h = absurd (List·Memᴰ·not-nil h)
+
+  in-byRuleOver : {e : Record} (len p : ℕ) (r : Rule) → Stands g p r → List·Memᴰ e (byRuleOver at c A i len p r)
+      → Justified g (Holds at) c (length c) e
+  in-byRuleOver zero p r s h = absurd (List·Memᴰ·not-nil h)
+  in-byRuleOver (suc zero) p r s h = in-byWord p r s h
+  in-byRuleOver (suc (suc len)) p r s h =
+      let j = i + suc (suc len) in
+      let (k, a, b, m) = in-flatUp (ruleAt c A i j p r) (suc i) (j - suc i) h in
+      in-byRule k j p r s m
 
   pub in-candidates : {e : Record} (len : ℕ) → List·Memᴰ e (candidates g at c A i len) → Justified g (Holds at) c (length c) e
-  in-candidates zero h = absurd (List·Memᴰ·not-nil h)
-  in-candidates (suc zero) h =
-      let (p, a, b, m) = in-flatUp (byWord g at A i) 0 (length g) h in
-      let (r, f, n) = in-option (byWordRule at A i p) (getElem? g p) m in
-      in-byWordRule p r (getElem-stands g p f) n
-  in-candidates (suc (suc len)) h =
-      let j = i + suc (suc len) in
-      let (k, a, b, m) = in-flatUp (atSplit g c A i j) (suc i) (suc len) h in
-      let (p, a′, b′, m′) = in-flatUp (byProduction g c A i k j) 0 (length g) m in
-      let (r, f, n) = in-option (byRule c A i k j p) (getElem? g p) m′ in
-      in-byRule k j p r (getElem-stands g p f) n
+  in-candidates len h =
+      let (p, a, b, m) = in-flatUp (byProduction g at c A i len) 0 (length g) h in
+      let (r, f, n) = in-option (byRuleOver at c A i len p) (getElem? g p) m in
+      in-byRuleOver len p r (getElem-stands g p f) n
 
 -- The candidates have every item that a rule makes of items of the chart.
 module _ (g : List Rule) (at : ℕ → ℕ → Bool) (c : List Record) where
+  production-in : {p : ℕ} {r : Rule} {x : Item} (A i len : ℕ) → Stands g p r → Has (byRuleOver at c A i len p r) x
+      → Has (candidates g at c A i len) x
+  production-in {p} {r} A i len s h =
+      map-wider itemOf (byRuleOver at c A i len p r) _
+      (λ o m. flatUp-in (byProduction g at c A i len) 0 (length g) p (omega arith) (omega (arith, stands-length s))
+      (option-in (byRuleOver at c A i len p) (getElem? g p) (stands-getElem s) m))
+      h
+
   word-in : {p A w i : ℕ} (len : ℕ) → suc i ≡ i + len → Stands g p (Lexical A w) → at i w ≡ true
       → Has (candidates g at c A i len) (item A i (suc i) bare)
   word-in zero e s t = absurd (omega arith)
   word-in {p} {A} {w} {i} (suc zero) e s t =
-      map-wider itemOf (recorded (item A i (suc i) bare) p nowhere nowhere nowhere ∷ []) _
-      (λ r m. flatUp-in (byWord g at A i) 0 (length g) p (omega arith) (omega (arith, stands-length s))
-      (option-in (byWordRule at A i p) (getElem? g p) (stands-getElem s) (rw (eqb-self A, t) m)))
-      (List·Memᴰ·head refl)
+      production-in A i 1 s (rw (eqb-self A, t) (List·Memᴰ·head refl))
   word-in (suc (suc len)) e s t = absurd (omega arith)
 
   rule-in : {p k j : ℕ} {r : Rule} {x : Item} (A i len : ℕ) → j ≡ i + len → Stands g p r → i < k → k < j
@@ -204,11 +211,10 @@ module _ (g : List Rule) (at : ℕ → ℕ → Bool) (c : List Record) where
   rule-in A i (suc zero) e s a b h = absurd (omega arith)
   rule-in {p} {k} {j} {r} {x} A i (suc (suc len)) e s a b h =
       let j′ = i + suc (suc len) in
-      map-wider itemOf (byRule c A i k j′ p r) _
-      (λ o m. flatUp-in (atSplit g c A i j′) (suc i) (suc len) k a (omega arith)
-      (flatUp-in (byProduction g c A i k j′) 0 (length g) p (omega arith) (omega (arith, stands-length s))
-      (option-in (byRule c A i k j′ p) (getElem? g p) (stands-getElem s) m)))
-      (subst (λ (j″ : ℕ). Has (byRule c A i k j″ p r) x) e h)
+      production-in A i (suc (suc len)) s
+      (map-wider itemOf (byRule c A i k j′ p r) _
+      (λ o m. flatUp-in (ruleAt c A i j′ p r) (suc i) (j′ - suc i) k a (omega arith) m)
+      (subst (λ (j″ : ℕ). Has (byRule c A i k j″ p r) x) e h))
 
   first-in : {p A B D i k j : ℕ} {a : Action} {ψ φ : Foot} (len : ℕ) → j ≡ i + len → Stands g p (Spine A a (B ∷ []) D [])
       → i < k → k < j → Has c (item B i k bare) → Has c (item D k j ψ) → Makes (map itemOf c) a D k j ψ φ

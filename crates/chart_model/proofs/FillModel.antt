@@ -22,7 +22,7 @@ use Rattle.layout.specs.Bytes.{counted}
 use Rattle.grammar.proofs.ListLaws.{eqb-self, in-concatMap, in-only, map-in, stands-in}
 use Rattle.grammar.proofs.StandsLaws.{none-some, some-same, stands-getElem}
 use Rattle.grammar.proofs.ItemTests.{in-choice, among-true}
-use Rattle.chart_model.specs.Build.{foldUp, placesFrom, isOf, isBareOf, places, barePlaces, footIn, footAt, takenFrom, keptFrom, continued, givenFoot, givenFrom, byAction, byRule, byProduction, atSplit, byWordRule, byWord, candidates, addEach, fillCell, closeSpan, closeLength}
+use Rattle.chart_model.specs.Build.{foldUp, placesFrom, isOf, isBareOf, places, barePlaces, footIn, footAt, takenFrom, keptFrom, continued, givenFoot, givenFrom, byAction, byRule, ruleAt, acrossSplits, byWord, byRuleOver, byProduction, candidates, addEach, fillCell, closeSpan, closeLength}
 use Rattle.chart_model.proofs.BuildLaws.{Has, in-flatUp, in-placesAll, placesAll-in, placesFrom-append, added-cases, addEach-none, in-option, getElem-append, stands-last}
 use Rattle.chart_model.proofs.Candidates.{places-in, in-barePlaces}
 
@@ -105,24 +105,25 @@ module _ (g : List Rule) (at : ℕ → ℕ → Bool) (c : List Record) (A i : �
       of-action c D i k A i j p x a f
   of-rule k j p (Spine A′ a [] D (B ∷ C ∷ after)) h = absurd (List·Memᴰ·not-nil h)
 
-  of-word : {e : Record} (p : ℕ) (r : Rule) → List·Memᴰ e (byWordRule at A i p r) → Of A i (i + 1) e
+  of-word : {e : Record} (p : ℕ) (r : Rule) → List·Memᴰ e (byWord at A i p r) → Of A i (i + 1) e
   of-word p (Lexical A′ w) h =
       let (t, f) = in-only (eqb A′ A && at i w) h in
       subst (Of A i (i + 1)) (sym f) (refl, refl, sym (add-one i))
   of-word p (Spine A′ a before D after) h = absurd (List·Memᴰ·not-nil h)
 
-  of-candidates : {e : Record} (len : ℕ) → List·Memᴰ e (candidates g at c A i len) → Of A i (i + len) e
-  of-candidates zero h = absurd (List·Memᴰ·not-nil h)
-  of-candidates (suc zero) h =
-      let (p, a, b, m) = in-flatUp (byWord g at A i) 0 (length g) h in
-      let (r, f, n) = in-option (byWordRule at A i p) (getElem? g p) m in
-      of-word p r n
-  of-candidates (suc (suc len)) h =
+  of-over : {e : Record} (len p : ℕ) (r : Rule) → List·Memᴰ e (byRuleOver at c A i len p r) → Of A i (i + len) e
+  of-over zero p r h = absurd (List·Memᴰ·not-nil h)
+  of-over (suc zero) p r h = of-word p r h
+  of-over (suc (suc len)) p r h =
       let j = i + suc (suc len) in
-      let (k, a, b, m) = in-flatUp (atSplit g c A i j) (suc i) (suc len) h in
-      let (p, a′, b′, m′) = in-flatUp (byProduction g c A i k j) 0 (length g) m in
-      let (r, f, n) = in-option (byRule c A i k j p) (getElem? g p) m′ in
-      of-rule k j p r n
+      let (k, a, b, m) = in-flatUp (ruleAt c A i j p r) (suc i) (j - suc i) h in
+      of-rule k j p r m
+
+  of-candidates : {e : Record} (len : ℕ) → List·Memᴰ e (candidates g at c A i len) → Of A i (i + len) e
+  of-candidates len h =
+      let (p, a, b, m) = in-flatUp (byProduction g at c A i len) 0 (length g) h in
+      let (r, f, n) = in-option (byRuleOver at c A i len p) (getElem? g p) m in
+      of-over len p r n
 
 -- So a cell, a span, the spans of a length, and all grow the chart by their cells.
 pub cell-grown : {c b : List Record} (room : ℕ) (g : List Rule) (at : ℕ → ℕ → Bool) (len i A : ℕ)

@@ -83,26 +83,29 @@ byRule c A i k j p (Spine A′ a [] D (B ∷ [])) =
     elim (eqb A′ A) [ true ↦ concatMap (byAction c a D i k A i j p) (barePlaces c B k j) | false ↦ [] ]
 byRule c A i k j p (Spine A′ a [] D (B ∷ C ∷ after)) = []
 
-abbrev pub byProduction : List Rule → List Record → ℕ → ℕ → ℕ → ℕ → ℕ → List Record
-byProduction g c A i k j p = elim (getElem? g p) [ none ↦ [] | some r ↦ byRule c A i k j p r ]
+-- The same at every split of i to j; and the word production of A for the word at i.
+abbrev pub ruleAt : List Record → ℕ → ℕ → ℕ → ℕ → Rule → ℕ → List Record
+ruleAt c A i j p r k = byRule c A i k j p r
 
--- Every production at one split; and the word productions at i.
-abbrev pub atSplit : List Rule → List Record → ℕ → ℕ → ℕ → ℕ → List Record
-atSplit g c A i j k = flatUp (byProduction g c A i k j) 0 (length g)
+abbrev pub acrossSplits : List Record → ℕ → ℕ → ℕ → ℕ → Rule → List Record
+acrossSplits c A i j p r = flatUp (ruleAt c A i j p r) (suc i) (j - suc i)
 
-abbrev pub byWordRule : (ℕ → ℕ → Bool) → ℕ → ℕ → ℕ → Rule → List Record
-byWordRule at A i p (Lexical A′ w) =
+abbrev pub byWord : (ℕ → ℕ → Bool) → ℕ → ℕ → ℕ → Rule → List Record
+byWord at A i p (Lexical A′ w) =
     only (eqb A′ A && at i w) (recorded (item A i (suc i) bare) p nowhere nowhere nowhere)
-byWordRule at A i p (Spine A′ a before D after) = []
+byWord at A i p (Spine A′ a before D after) = []
 
-abbrev pub byWord : List Rule → (ℕ → ℕ → Bool) → ℕ → ℕ → ℕ → List Record
-byWord g at A i p = elim (getElem? g p) [ none ↦ [] | some r ↦ byWordRule at A i p r ]
+-- The records that one production may add to the cell of A over i to i + len, and those that all may.
+abbrev pub byRuleOver : (ℕ → ℕ → Bool) → List Record → ℕ → ℕ → ℕ → ℕ → Rule → List Record
+byRuleOver at c A i zero p r = []
+byRuleOver at c A i (suc zero) p r = byWord at A i p r
+byRuleOver at c A i (suc (suc len)) p r = acrossSplits c A i (i + suc (suc len)) p r
 
--- The records that may be added to the cell of A over i to i + len.
+abbrev pub byProduction : List Rule → (ℕ → ℕ → Bool) → List Record → ℕ → ℕ → ℕ → ℕ → List Record
+byProduction g at c A i len p = elim (getElem? g p) [ none ↦ [] | some r ↦ byRuleOver at c A i len p r ]
+
 abbrev pub candidates : List Rule → (ℕ → ℕ → Bool) → List Record → ℕ → ℕ → ℕ → List Record
-candidates g at c A i zero = []
-candidates g at c A i (suc zero) = flatUp (byWord g at A i) 0 (length g)
-candidates g at c A i (suc (suc len)) = flatUp (atSplit g c A i (i + suc (suc len))) (suc i) (suc len)
+candidates g at c A i len = flatUp (byProduction g at c A i len) 0 (length g)
 
 -- A record is added where its item is new and the room holds one more; `none` where it does not.
 abbrev pub added : ℕ → Record → List Record → Option (List Record)

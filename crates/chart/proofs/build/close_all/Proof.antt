@@ -42,7 +42,7 @@ close-length-requires c κs =
       p .2,
       c .before .before .before .before .loop-test .taken,
       p .3,
-      (λ A i. fresh-length (a .room) (grammarIn (a .rules) (a .many)) (wordIs (take (a .n) (a .words .now))) (a .symbols) (a .n) (l .len) A i
+      (λ A i. fresh-length (a .room) (grammarIn (a .rules .now) (a .many)) (wordIs (take (a .n) (a .words .now))) (a .symbols) (a .n) (l .len) A i
           (state-some (a .room) (l .now) (l .chart) (inv .2 .model) (inv .1))),
       p .4,
     )
@@ -64,7 +64,7 @@ returns c =
     let a = c .before .before .before .before .before .before .before .before .before .before .before .before .before .before .before .before .before .before .before .before .args in
     let l = c .before .before .before .before .before .before .before .before .before .before .before .before .before .before .before .loop in
     let inv = l .inv in
-    let g = grammarIn (a .rules) (a .many) in
+    let g = grammarIn (a .rules .now) (a .many) in
     let at = wordIs (take (a .n) (a .words .now)) in
     let f = closeLength (a .room) g at (a .symbols) (a .n) in
     closed-all
@@ -83,7 +83,7 @@ loop-again c =
     let a = c .before .before .before .before .before .before .before .before .before .before .before .before .before .before .before .before .before .before .before .before .args in
     let l = c .before .before .before .before .before .before .before .before .before .before .before .before .before .before .before .loop in
     let inv = l .inv in
-    let g = grammarIn (a .rules) (a .many) in
+    let g = grammarIn (a .rules .now) (a .many) in
     let at = wordIs (take (a .n) (a .words .now)) in
     let f = closeLength (a .room) g at (a .symbols) (a .n) in
     let k = c .before .before .before .before .before .before .before .before .before .close-length .kept in (
@@ -113,7 +113,7 @@ returns-2 c =
     let a = c .before .before .before .before .before .before .args in
     let l = c .before .loop in
     closed-all
-    (fold-at (closeLength (a .room) (grammarIn (a .rules) (a .many)) (wordIs (take (a .n) (a .words .now))) (a .symbols) (a .n)) (l .len)
+    (fold-at (closeLength (a .room) (grammarIn (a .rules .now) (a .many)) (wordIs (take (a .n) (a .words .now))) (a .symbols) (a .n)) (l .len)
     (a .n) (some []) (omega (arith, l .inv .0, c .loop-test .left)) (l .inv .2))
 
 pub close-all-spec : {M : Type 1} → statement M

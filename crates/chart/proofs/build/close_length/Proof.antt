@@ -52,7 +52,7 @@ close-span-requires c κs =
       omega arith,
       omega (arith, c .before .before .before .before .loop-test .taken),
       p .4,
-      (λ A. fresh-span (chartIn (a .chart .now) (a .count)) (a .room) (grammarIn (a .rules) (a .many)) (wordIs (take (a .n) (a .words .now)))
+      (λ A. fresh-span (chartIn (a .chart .now) (a .count)) (a .room) (grammarIn (a .rules .now) (a .many)) (wordIs (take (a .n) (a .words .now)))
           (a .symbols) (a .len) (l .i) A (p .5) (state-some (a .room) (l .now) (l .chart) (inv .2 .model) (inv .1))),
       p .6,
     )
@@ -74,7 +74,7 @@ returns c =
     let a = c .before .before .before .before .before .before .before .before .before .before .before .before .before .before .before .before .before .before .before .before .args in
     let l = c .before .before .before .before .before .before .before .before .before .before .before .before .before .before .before .loop in
     let inv = l .inv in
-    let g = grammarIn (a .rules) (a .many) in
+    let g = grammarIn (a .rules .now) (a .many) in
     let at = wordIs (take (a .n) (a .words .now)) in
     let f = closeSpan (a .room) g at (a .symbols) (suc (a .len)) in
     let s = some (chartIn (a .chart .now) (a .count)) in
@@ -94,7 +94,7 @@ loop-again c =
     let a = c .before .before .before .before .before .before .before .before .before .before .before .before .before .before .before .before .before .before .before .before .args in
     let l = c .before .before .before .before .before .before .before .before .before .before .before .before .before .before .before .loop in
     let inv = l .inv in
-    let g = grammarIn (a .rules) (a .many) in
+    let g = grammarIn (a .rules .now) (a .many) in
     let at = wordIs (take (a .n) (a .words .now)) in
     let f = closeSpan (a .room) g at (a .symbols) (suc (a .len)) in
     let s = some (chartIn (a .chart .now) (a .count)) in
@@ -124,7 +124,7 @@ returns-2 : tie.Need-returns-2 Inv-loop μ-loop
 returns-2 c =
     let a = c .before .before .before .before .before .before .args in
     let l = c .before .loop in
-    fold-at (closeSpan (a .room) (grammarIn (a .rules) (a .many)) (wordIs (take (a .n) (a .words .now))) (a .symbols) (suc (a .len)))
+    fold-at (closeSpan (a .room) (grammarIn (a .rules .now) (a .many)) (wordIs (take (a .n) (a .words .now))) (a .symbols) (suc (a .len)))
     (l .i) (a .n - a .len) (some (chartIn (a .chart .now) (a .count))) (omega (arith, l .inv .0, c .loop-test .left)) (l .inv .2)
 
 pub close-length-spec : {M : Type 1} → statement M

@@ -12,7 +12,7 @@ use Rattle.chart_model.specs.Build.{foldUp, fillCell}
 use Rattle.chart.specs.Fill.{Filled, OtherSpan}
 use Rattle.chart.specs.Tables.{grammarIn}
 use Rattle.records.specs.Room.{chartIn}
-use Rattle.chart.proofs.FillSpans.{filled-none, idle-span, idle-turn, fresh-turn, cell-grows, fold-then, fold-skip, fold-over, fold-at, filled-eq}
+use Rattle.chart.proofs.FillSpans.{filled-none, idle-span, idle-turn, turn-set, fresh-turn, cell-grows, fold-then, fold-skip, fold-over, fold-at, filled-eq}
 use Rattle.chart.proofs.FillLaws.{state-some}
 use Rattle.chart.proofs.build.close_span.Statement.{statement}
 use Rattle.chart.proofs.build.close_span.Tie as tie
@@ -46,11 +46,11 @@ loop-holds c =
     let p = c .before .before .before .before .before .before .before .pre in
     (omega arith, p .0 .countFits, filled-none (p .0) refl, refl, refl, refl)
 
-mul-if2 : tie.Need-mul-if2 Inv-loop μ-loop
-mul-if2 c = omega (arith, c .loop-test .taken, c .before .before .before .before .before .before .before .before .before .pre .0 .symbolsFit)
+mul-own : tie.Need-mul-own Inv-loop μ-loop
+mul-own c = omega (arith, c .loop-test .taken, c .before .before .before .before .before .before .before .before .before .pre .0 .symbolsFit)
 
-element-copy-out-if2 : tie.Need-element-copy-out-if2 Inv-loop μ-loop
-element-copy-out-if2 c = omega (arith, c .loop-test .taken, c .before .before .before .before .before .before .before .before .before .pre .0 .symbolsFit)
+element-copy-out-own : tie.Need-element-copy-out-own Inv-loop μ-loop
+element-copy-out-own c = omega (arith, c .loop-test .taken, c .before .before .before .before .before .before .before .before .before .pre .0 .symbolsFit)
 
 cast-t29 : tie.Need-cast-t29 Inv-loop μ-loop
 cast-t29 c = omega (arith, c .before .before .loop-test .taken, c .before .before .before .before .before .before .before .before .before .before .before .pre .0 .symbolsFit)
@@ -75,8 +75,10 @@ fill-cell-requires c κs =
       p .3,
       p .4,
       p .5,
-      fresh-turn (chartIn (a .chart .now) (a .count)) (a .room) (grammarIn (a .rules) (a .many)) (wordIs (take (a .n) (a .words .now)))
+      fresh-turn (chartIn (a .chart .now) (a .count)) (a .room) (grammarIn (a .rules .now) (a .many)) (wordIs (take (a .n) (a .words .now)))
           (a .i) (a .j) (l .a) (p .6 (l .a)) (state-some (a .room) (l .now) (l .chart) (inv .2 .model) (inv .1)),
+      turn-set (a .room) (p .0) (p .2) (c .before .before .before .before .before .before .before .before .before .span-set .ensures) (p .3) (p .4) (l .a) (c .before .before .before .before .before .before .loop-test .taken)
+          (state-some (a .room) (l .now) (l .chart) (inv .2 .model) (inv .1)),
       p .7,
     )
 
@@ -96,7 +98,7 @@ returns-2 : tie.Need-returns-2 Inv-loop μ-loop
 returns-2 c =
     let a = c .before .before .before .before .before .before .before .before .before .before .before .before .before .before .before .before .before .before .before .before .before .before .before .before .before .args in
     let l = c .before .before .before .before .before .before .before .before .before .before .before .before .before .before .before .before .before .loop in
-    let g = grammarIn (a .rules) (a .many) in
+    let g = grammarIn (a .rules .now) (a .many) in
     let at = wordIs (take (a .n) (a .words .now)) in
     let f = fillCell (a .room) g at (a .j - a .i) (a .i) in
     let s = some (chartIn (a .chart .now) (a .count)) in
@@ -116,7 +118,7 @@ loop-again c =
     let a = c .before .before .before .before .before .before .before .before .before .before .before .args in
     let l = c .before .before .before .loop in
     let inv = l .inv in
-    let g = grammarIn (a .rules) (a .many) in
+    let g = grammarIn (a .rules .now) (a .many) in
     let at = wordIs (take (a .n) (a .words .now)) in
     let f = fillCell (a .room) g at (a .j - a .i) (a .i) in
     let s = some (chartIn (a .chart .now) (a .count)) in
@@ -135,8 +137,8 @@ loop-again c =
       omega (arith, inv .1, w .5),
       filled-eq (w .1) (w .2) (w .3) (w .4) (w .5)
           (fold-skip f (l .a) s (inv .2) (inv .1)
-          (idle-turn (a .room) (p .0) (p .2) (c .before .before .before .before .before .span-set .ensures) (p .3) (p .4) (l .a) (c .before .before .loop-test .taken) (w .0 .left)
-          (state-some (a .room) (l .now) (l .chart) (inv .2 .model) (inv .1)))),
+          (idle-turn (a .room) (p .0) (p .2) (c .before .before .before .before .before .span-set .ensures) (p .3) (p .4) (l .a) (c .before .before .loop-test .taken)
+          (state-some (a .room) (l .now) (l .chart) (inv .2 .model) (inv .1)) (w .0 .left))),
       ap length (w .2) ∙ inv .3,
       ap length (w .3) ∙ inv .4,
       ap length (w .4) ∙ inv .5,
@@ -159,7 +161,7 @@ returns-3 : tie.Need-returns-3 Inv-loop μ-loop
 returns-3 c =
     let a = c .before .before .before .before .before .before .before .before .before .args in
     let l = c .before .loop in
-    fold-at (fillCell (a .room) (grammarIn (a .rules) (a .many)) (wordIs (take (a .n) (a .words .now))) (a .j - a .i) (a .i)) (l .a)
+    fold-at (fillCell (a .room) (grammarIn (a .rules .now) (a .many)) (wordIs (take (a .n) (a .words .now))) (a .j - a .i) (a .i)) (l .a)
     (a .symbols) (some (chartIn (a .chart .now) (a .count))) (omega (arith, l .inv .0, c .loop-test .left)) (l .inv .2)
 
 pub close-span-spec : {M : Type 1} → statement M
@@ -172,8 +174,8 @@ close-span-spec =
     same-length
     returns
     loop-holds
-    mul-if2
-    element-copy-out-if2
+    mul-own
+    element-copy-out-own
     cast-t29
     cast-t30
     cast-t31

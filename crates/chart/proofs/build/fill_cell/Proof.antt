@@ -1,46 +1,53 @@
 -- `chart::build::fill_cell` meets its contract. An item did not fit, nothing was new, or the cell has records: each is one law of FillCells.
-use Prim.Native.Nat.{ℕ}
+use Prim.Native.Nat.{ℕ, _-_}
 use native.Mathlib.Omega.{arith}
-use mathlib.Core.Path.{sym, subst}
-use lib.ListN.{getD, take}
+use mathlib.Core.Path.{sym, ap, subst}
+use lib.ListN.{take}
 use borrow.Author.Needs.{needs}
 use Rattle.grammar.specs.Input.{wordIs}
+use Rattle.chart_model.specs.Build.{candidates}
 use Rattle.records.specs.Index.{Indexed}
-use Rattle.chart.specs.Tables.{grammarIn, Sorted, OwnSet}
-use Rattle.records.specs.Room.{chartIn}
-use Rattle.chart.proofs.FillCells.{over-filled, same-filled, cell-state, range-small, cell-place, cell-filled}
+use Rattle.chart.specs.Tables.{grammarIn, Sorted, CellSet}
+use Rattle.records.specs.Room.{chartIn, Added}
+use Rattle.chart.proofs.FillCells.{added-same, over-filled, same-filled, cell-state, range-small, cell-place, cell-filled}
 use Rattle.chart.proofs.FillLaws.{fresh-working}
 use Rattle.chart.proofs.build.fill_cell.Statement.{statement}
 use Rattle.chart.proofs.build.fill_cell.Tie as tie
 
-wide-requires : tie.Need-wide-requires
-wide-requires c κs = search needs
-
-mul-own : tie.Need-mul-own
-mul-own c = search needs
-
-element-copy-out-own : tie.Need-element-copy-out-own
-element-copy-out-own c = search needs
-
 fill-items-requires : tie.Need-fill-items-requires
 fill-items-requires c κs =
-    let s = c .before .before .before .before .before .before .before .before .before .before in
+    let s = c .before .before .before .before .before .before .before .before in
     let a = s .args in
     let p = s .pre in
-    let b = p .0 in (
+    let b = p .0 in
+    let g = grammarIn (a .rules .now) (a .many) in (
       fresh-working (a .c .left) (a .c .from) (a .c .to) b (p .8),
-      p .1,
+      omega (arith, p .1),
       subst (λ (k : ℕ). Indexed (a .z .words) (a .z .symbols) (chartIn (a .chart .now) k) (a .index .now)) (sym (p .1)) (b .indexed),
       p .2,
       p .5,
       p .6,
       p .7,
-      subst (λ (k : ℕ). Sorted (grammarIn (a .rules) (a .many)) (a .z .words) (chartIn (a .chart .now) k) (a .sets .now)) (sym (p .1))
-          (b .sorted),
-      subst (λ (k : ℕ). OwnSet (grammarIn (a .rules) (a .many)) (a .c .left) (getD (a .by .now) k 0)) (sym (c .before .before .before .before .before .wide .ensures .0))
-          (p .3 .own (a .c .left) (omega (arith, p .4, b .symbolsFit))),
-      p .9,
+      subst (λ (k : ℕ). CellSet g (wordIs (take (a .z .words) (a .words .now))) (chartIn (a .chart .now) k) (a .c .left) (a .c .from)
+          (a .c .to - a .c .from) (a .set)) (sym (p .1)) (p .9),
+      subst (λ (k : ℕ). Sorted g (a .z .words) (chartIn (a .chart .now) k) (a .sets .now)) (sym (p .1)) (b .sorted),
+      p .10,
     )
+
+-- What they are of the chart as it was.
+items : (c : tie.After-fill-items)
+    → let a = c .before .before .before .before .before .before .before .before .before .args in
+    Added (a .z .words) (a .z .symbols) (a .z .room) (a .c .left) (a .c .from) (a .c .to)
+    (candidates (grammarIn (a .rules .now) (a .many)) (wordIs (take (a .z .words) (a .words .now))) (chartIn (a .chart .now) (a .count))
+    (a .c .left) (a .c .from) (a .c .to - a .c .from)) (a .chart .now) (a .marks .now) (a .count) (c .fill-items .last .0)
+    (c .fill-items .last .1 .0) (c .fill-items .result)
+items c =
+    let s = c .before .before .before .before .before .before .before .before .before in
+    let a = s .args in
+    added-same
+    (ap (λ (k : ℕ). candidates (grammarIn (a .rules .now) (a .many)) (wordIs (take (a .z .words) (a .words .now))) (chartIn (a .chart .now) k)
+    (a .c .left) (a .c .from) (a .c .to - a .c .from)) (s .pre .1))
+    (c .fill-items .ensures)
 
 same-length : tie.Need-same-length
 same-length c = search needs
@@ -55,7 +62,7 @@ same-length-4 : tie.Need-same-length-4
 same-length-4 c = search needs
 
 returns : tie.Need-returns
-returns c = over-filled (c .before .before .before .before .before .before .fill-items .ensures .sameRoom) (c .before .before .before .before .before .before .fill-items .ensures .model) (c .if1 .taken)
+returns c = over-filled (items (c .before .before .before .before .before .before) .sameRoom) (items (c .before .before .before .before .before .before) .model) (c .if1 .taken)
 
 same-length-5 : tie.Need-same-length-5
 same-length-5 c = search needs
@@ -71,14 +78,17 @@ same-length-8 c = search needs
 
 returns-2 : tie.Need-returns-2
 returns-2 c =
-    let s = c .before .before .before .before .before .before .before .before .before .before .before .before .before .before .before .before .before .before in
+    let s = c .before .before .before .before .before .before .before .before .before .before .before .before .before .before .before .before in
     let a = s .args in
-    same-filled (a .c .left) (a .c .from) (a .c .to) (s .pre .0) (s .pre .8) (c .before .before .before .before .before .before .before .fill-items .ensures) (c .if2 .taken)
+    same-filled (a .c .left) (a .c .from) (a .c .to) (s .pre .0) (s .pre .8) (items (c .before .before .before .before .before .before .before)) (c .if2 .taken)
 
 finish-requires : tie.Need-finish-requires
 finish-requires c κs =
-    let a = c .before .before .before .before .before .before .before .before .before .fill-items .ensures in
-    (a .works (c .before .before .before .if1 .left), omega (arith, a .grown, c .before .before .before .before .before .before .before .before .before .before .before .before .before .before .before .before .before .before .before .before .pre .1))
+    let a = items (c .before .before .before .before .before .before .before .before .before) in
+    (a .works (c .before .before .before .if1 .left), omega (arith, a .grown, c .before .before .before .before .before .before .before .before .before .before .before .before .before .before .before .before .before .before .pre .1))
+
+wide-requires : tie.Need-wide-requires
+wide-requires c κs = search needs
 
 wide-requires-2 : tie.Need-wide-requires-2
 wide-requires-2 c κs = search needs
@@ -86,29 +96,26 @@ wide-requires-2 c κs = search needs
 wide-requires-3 : tie.Need-wide-requires-3
 wide-requires-3 c κs = search needs
 
-wide-requires-4 : tie.Need-wide-requires-4
-wide-requires-4 c κs = search needs
-
 cell-at-requires : tie.Need-cell-at-requires
 cell-at-requires c κs =
-    let p = c .before .before .before .before .before .before .before .before .before .before .before .before .before .before .before .before .before .before .before .before .before .before .before .before .before .before .pre in (
+    let p = c .before .before .before .before .before .before .before .before .before .before .before .before .before .before .before .before .before .before .before .before .before .before .before .before .pre in (
       p .0 .wordsFit,
       p .0 .symbolsFit,
-      omega (arith, p .4, c .before .before .wide2 .ensures .0),
-      omega (arith, p .5, c .before .wide3 .ensures .0, c .wide4 .ensures .0),
-      omega (arith, p .6, c .wide4 .ensures .0),
+      omega (arith, p .4, c .before .before .wide .ensures .0),
+      omega (arith, p .5, c .before .wide2 .ensures .0, c .wide3 .ensures .0),
+      omega (arith, p .6, c .wide3 .ensures .0),
     )
 
 put-range-requires : tie.Need-put-range-requires
 put-range-requires c κs =
-    let p = c .before .before .before .before .before .before .before .before .before .before .before .before .before .before .before .before .before .before .before .before .before .before .before .before .before .before .before .before .pre in
-    let a = c .before .before .before .before .before .before .before .before .before .before .before .before .before .before .before .before .before .fill-items .ensures in
+    let p = c .before .before .before .before .before .before .before .before .before .before .before .before .before .before .before .before .before .before .before .before .before .before .before .before .before .before .pre in
+    let a = items (c .before .before .before .before .before .before .before .before .before .before .before .before .before .before .before .before .before) in
     let r = range-small (c .before .before .before .before .before .before .before .finish .ensures) (omega (arith, a .grown, p .1)) (omega (arith, c .before .before .before .before .before .before .before .before .before .before .before .if1 .left, p .0 .roomSmall)) in
     (omega (arith, c .before .cell-at .ensures .1, p .0 .indexed .long), r .0, r .1, r .2)
 
 note-requires : tie.Need-note-requires
 note-requires c κs =
-    let p = c .before .before .before .before .before .before .before .before .before .before .before .before .before .before .before .before .before .before .before .before .before .before .before .before .before .before .before .before .before .before .before .before .pre in
+    let p = c .before .before .before .before .before .before .before .before .before .before .before .before .before .before .before .before .before .before .before .before .before .before .before .before .before .before .before .before .before .before .pre in
     (p .0 .wordsFit, p .5, p .6, omega (arith, p .4, p .0 .symbolsFit), p .0 .sorted .long)
 
 same-length-9 : tie.Need-same-length-9
@@ -125,26 +132,23 @@ same-length-12 c = search needs
 
 returns-3 : tie.Need-returns-3
 returns-3 c =
-    let s = c .before .before .before .before .before .before .before .before .before .before .before .before .before .before .before .before .before .before .before .before .before .before .before .before .before .before .before .before .before .before .before .before .before .before .before in
+    let s = c .before .before .before .before .before .before .before .before .before .before .before .before .before .before .before .before .before .before .before .before .before .before .before .before .before .before .before .before .before .before .before .before .before in
     let a = s .args in
     let p = s .pre in
-    let e = c .before .before .before .before .before .before .before .before .before .before .before .before .before .before .before .before .before .before .before .before .before .before .before .before .fill-items .ensures in
+    let e = items (c .before .before .before .before .before .before .before .before .before .before .before .before .before .before .before .before .before .before .before .before .before .before .before .before) in
     let fits = c .before .before .before .before .before .before .before .before .before .before .before .before .before .before .before .before .before .before .if1 .left in
     cell-filled (a .c .left) (a .c .from) (a .c .to) (c .before .before .before .before .before .before .before .before .cell-at .result) (p .0) (p .3) (p .4) (p .5) (p .6) (p .8) e
     (cell-state (a .chart .now) (c .before .before .before .before .before .before .before .before .before .before .before .before .before .before .before .before .before .before .before .before .before .before .before .before .fill-items .last .0) (a .count) (c .before .before .before .before .before .before .before .before .before .before .before .before .before .before .before .before .before .before .before .before .before .before .before .before .fill-items .result) (a .z .room)
-    (grammarIn (a .rules) (a .many)) (wordIs (take (a .z .words) (a .words .now))) (a .c .left) (a .c .from) (a .c .to) (e .model) fits
+    (grammarIn (a .rules .now) (a .many)) (wordIs (take (a .z .words) (a .words .now))) (a .c .left) (a .c .from) (a .c .to) (e .model) fits
     (p .5)) fits (p .1) (c .before .before .before .before .before .before .before .before .before .before .before .before .before .before .finish .ensures)
-    (cell-place (a .z .words) (a .z .symbols) (c .before .before .before .before .before .before .before .before .cell-at .ensures .0) (c .before .before .before .before .before .before .before .before .before .before .before .wide2 .ensures .0) (c .before .before .before .before .before .before .before .before .before .before .wide3 .ensures .0)
-    (c .before .before .before .before .before .before .before .before .before .wide4 .ensures .0)) (omega (arith, c .before .before .before .before .before .before .before .before .cell-at .ensures .1, p .0 .indexed .long)) (c .before .before .before .before .before .before .put-range .ensures)
+    (cell-place (a .z .words) (a .z .symbols) (c .before .before .before .before .before .before .before .before .cell-at .ensures .0) (c .before .before .before .before .before .before .before .before .before .before .before .wide .ensures .0) (c .before .before .before .before .before .before .before .before .before .before .wide2 .ensures .0)
+    (c .before .before .before .before .before .before .before .before .before .wide3 .ensures .0)) (omega (arith, c .before .before .before .before .before .before .before .before .cell-at .ensures .1, p .0 .indexed .long)) (c .before .before .before .before .before .before .put-range .ensures)
     (c .before .before .note .ensures)
 
 pub fill-cell-spec : {M : Type 1} → statement M
 fill-cell-spec =
     tie.close
     (tie.spec
-    wide-requires
-    mul-own
-    element-copy-out-own
     fill-items-requires
     same-length
     same-length-2
@@ -157,9 +161,9 @@ fill-cell-spec =
     same-length-8
     returns-2
     finish-requires
+    wide-requires
     wide-requires-2
     wide-requires-3
-    wide-requires-4
     cell-at-requires
     put-range-requires
     note-requires

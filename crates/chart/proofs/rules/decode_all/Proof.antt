@@ -1,18 +1,14 @@
--- `rules::decode_all` meets its contract. The loop's invariant: the first m rules are decoded, and the others are padding.
+-- `rules::decode_all` meets its contract. The loop's invariant: the first m rules are packed, and the others are padding.
 use Prim.Native.Nat.{_≤_, _-_}
 use native.Mathlib.Omega.{arith}
-use mathlib.Core.Path.{_≡_, refl, _∙_}
-use borrow.Author.Needs.{needs}
-use lib.ListN.{length}
-use Rattle.chart.proofs.BuiltLaws.{DecodedTo, decoded-none, decoded-more, decoded-all}
+use mathlib.Core.Path.{_≡_, _∙_}
+use Rattle.chart.specs.Built.{DecodedAll}
+use Rattle.chart.proofs.BuiltLaws.{decoded-none, decoded-more, decoded-as, fields-rule}
 use Rattle.chart.proofs.rules.decode_all.Statement.{statement}
 use Rattle.chart.proofs.rules.decode_all.Tie as tie
-use Rattle.chart.proofs.rules.decode_all.Reads as reads
-use Rattle.chart.proofs.rules.decode_all.Lts as lts
-use Rattle.card.proofs.decode.Reads as decode-reads
 
 abbrev Inv-loop : tie.InvT-loop
-Inv-loop card many rules₀ m₀ rules m = (m ≤ many) × DecodedTo card m rules
+Inv-loop card many rules₀ m₀ rules m = (m ≤ many) × DecodedAll card m rules
 
 abbrev μ-loop : tie.MeasureT-loop
 μ-loop card many rules₀ m₀ rules m = many - m
@@ -20,30 +16,31 @@ abbrev μ-loop : tie.MeasureT-loop
 loop-holds : tie.Need-loop-holds Inv-loop μ-loop
 loop-holds c = (omega arith, decoded-none _)
 
-cast-decode : tie.Need-cast-decode Inv-loop μ-loop
-cast-decode c = omega (arith, c .before .before .before .pre)
+fields-of-requires : tie.Need-fields-of-requires Inv-loop μ-loop
+fields-of-requires c κs = omega (arith, c .before .before .before .pre)
 
-decode-requires : tie.Need-decode-requires Inv-loop μ-loop
-decode-requires c κs = search needs
+pack-requires : tie.Need-pack-requires Inv-loop μ-loop
+pack-requires c κs = tt
 
 mul-rules : tie.Need-mul-rules Inv-loop μ-loop
-mul-rules c = omega (arith, c .before .before .before .before .pre)
+mul-rules c = omega (arith, c .before .before .before .before .before .pre)
 
-array-set-from-rules : tie.Need-array-set-from-rules Inv-loop μ-loop
-array-set-from-rules c = omega (arith, c .before .before .before .before .pre)
+array-write-rules : tie.Need-array-write-rules Inv-loop μ-loop
+array-write-rules c = omega (arith, c .before .before .before .before .before .pre)
 
 add-m : tie.Need-add-m Inv-loop μ-loop
-add-m c = omega (arith, c .before .before .before .before .pre)
+add-m c = omega (arith, c .before .before .before .before .before .pre)
 
 loop-less : tie.Need-loop-less Inv-loop μ-loop
 loop-less c = omega arith
 
 loop-again : tie.Need-loop-again Inv-loop μ-loop
 loop-again c =
-    let l = c .before .before .loop in
-    let s = c .before .before .before .before in (
+    let l = c .before .before .before .loop in
+    let s = c .before .before .before .before .before in (
       omega arith,
-      decoded-more (s .args .card .now) (l .m) (l .rules) (c .decode .result) (omega (arith, s .pre)) (c .decode .ensures) (l .inv .1),
+      decoded-more (s .args .card .now) (l .m) (l .rules) (c .pack .result) (omega (arith, s .pre))
+          (c .pack .ensures ∙ fields-rule (c .before .fields-of .ensures)) (l .inv .1),
     )
 
 returns : tie.Need-returns Inv-loop μ-loop
@@ -51,9 +48,9 @@ returns c =
     let l = c .before .loop in
     let s = c .before .before .before in
     let all : l .m ≡ s .args .many = omega arith in
-    decoded-all (s .args .card .now) (l .m) (s .args .many) (l .rules) all (l .inv .1)
+    decoded-as (s .args .card .now) (l .rules) all (l .inv .1)
 
 pub decode-all-spec : {M : Type 1} → statement M
 decode-all-spec =
     tie.close
-    (tie.spec Inv-loop μ-loop loop-holds cast-decode decode-requires mul-rules array-set-from-rules add-m loop-less loop-again returns)
+    (tie.spec Inv-loop μ-loop loop-holds fields-of-requires pack-requires mul-rules array-write-rules add-m loop-less loop-again returns)

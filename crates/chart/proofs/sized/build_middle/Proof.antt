@@ -1,5 +1,6 @@
--- `sized::build_middle` meets its contract: its tables are zeros, and long enough for 12 words.
+-- `sized::build_middle` meets its contract: its tables are zeros, and long enough for 12 words and 2304 cells.
 use lib.Dec.{lit<, lit≤}
+use Rattle.layout.specs.Card.{nonterminalCount}
 use Rattle.chart.proofs.BuiltExact.{tables-lent}
 use borrow.Author.Needs.{needs}
 use Rattle.chart.proofs.sized.build_middle.Statement.{statement}
@@ -8,29 +9,27 @@ use Rattle.chart.proofs.sized.build_middle.Reads as reads
 use Rattle.chart.proofs.sized.build_middle.Lts as lts
 use Rattle.chart.proofs.sized.build_with.Reads as build-with-reads
 
--- src/sized.rt:42:45
 slice-aggregate-build-with : tie.Need-slice-aggregate-build-with
 slice-aggregate-build-with c = search needs
 
--- src/sized.rt:42:57
 slice-aggregate-build-with-2 : tie.Need-slice-aggregate-build-with-2
 slice-aggregate-build-with-2 c = search needs
 
--- src/sized.rt:42:69
 slice-aggregate-build-with-3 : tie.Need-slice-aggregate-build-with-3
 slice-aggregate-build-with-3 c = search needs
 
--- src/sized.rt:42:5
 build-with-requires : tie.Need-build-with-requires
 build-with-requires c κs =
-    let s = c .before .before .before .before .before .before in
-    (s .pre .0, s .pre .1, tables-lent (s .args .n) 12 2305 6912 288 (s .pre .2) (lit< tt) (lit≤ tt) (lit≤ tt))
+    let s = c .before .before .before .before .before .before in (
+      s .pre .0,
+      s .pre .1,
+      tables-lent (s .args .n) (nonterminalCount (s .args .card .now)) 12 2304 2305 6912 288 (s .pre .2) (s .pre .3) (lit< tt)
+          (lit≤ tt) (lit≤ tt),
+    )
 
--- src/sized.rt:35:1
 same-length : tie.Need-same-length
 same-length c = search needs
 
--- src/sized.rt:35:1
 returns : tie.Need-returns
 returns c = search needs
 

@@ -16,68 +16,59 @@ use Rattle.chart.proofs.build.close_all.Reads as close-all-reads
 use Rattle.chart.proofs.rules.decode_all.Reads as decode-all-reads
 use Rattle.chart.proofs.sets.classify.Reads as classify-reads
 
--- src/sized.rt:17:9
 of-requires : tie.Need-of-requires
 of-requires c κs = search needs
 
--- src/sized.rt:20:9
 decode-all-requires : tie.Need-decode-all-requires
 decode-all-requires c κs =
     let s = c .before .before .before .before .before .before in
     omega (arith, c .of .ensures .productions, counts-fit (s .args .card .now) (s .pre .0 .accepted) .productions)
 
--- src/sized.rt:21:14
 classify-requires : tie.Need-classify-requires
 classify-requires c κs =
-    let s = c .before .before .before .before .before .before .before in
+    let s = c .before .before .before .before .before .before .before .before in
     let card = s .args .card .now in
-    let e = c .before .of .ensures in
+    let e = c .before .before .of .ensures in
     let fits = counts-fit card (s .pre .0 .accepted) in (
       omega (arith, e .productions, fits .productions),
-      rules-more (nonterminalCount card) 16 (c .decode-all .result) (fits .symbols .1)
-          (rules-fit card (c .decode-all .result) (s .pre .0 .accepted) (decoded-as card _ (e .productions) (c .decode-all .ensures))),
+      rules-more (nonterminalCount card) 16 (c .before .decode-all .result) (fits .symbols .1)
+          (rules-fit card (c .before .decode-all .result) (s .pre .0 .accepted) (decoded-as card _ (e .productions) (c .before .decode-all .ensures))),
     )
 
--- src/sized.rt:22:5
 close-all-requires : tie.Need-close-all-requires
 close-all-requires c κs =
-    let s = c .before .before .before .before .before .before .before .before .before .before .before .before .before in
+    let s = c .before .before .before .before .before .before .before .before .before .before .before .before .before .before .before in
     let card = s .args .card .now in
-    let e = c .before .before .before .before .before .before .before .of .ensures in
-    let rules = c .before .before .before .before .before .before .decode-all .result in
+    let e = c .before .before .before .before .before .before .before .before .before .of .ensures in
+    let rules = c .before .before .before .before .before .before .before .before .decode-all .result in
     let fits = counts-fit card (s .pre .0 .accepted) in (
       rw (e .nonterminals) (tables-start card (s .args .words .now) (s .args .n) (s .args .room) (s .pre .0) (s .pre .1) (s .pre .2)),
       rw (e .nonterminals)
-          (rules-fit card rules (s .pre .0 .accepted) (decoded-as card rules (e .productions) (c .before .before .before .before .before .before .decode-all .ensures))),
-      c .before .before .before .before .before .classify .ensures,
+          (rules-fit card rules (s .pre .0 .accepted) (decoded-as card rules (e .productions) (c .before .before .before .before .before .before .before .before .decode-all .ensures))),
+      c .before .before .before .before .before .before .classify .ensures,
       omega (arith, e .productions, fits .productions),
       s .pre .0 .given,
     )
 
--- src/sized.rt:13:1
 same-length : tie.Need-same-length
 same-length c = search needs
 
--- src/sized.rt:13:1
 same-length-2 : tie.Need-same-length-2
 same-length-2 c = search needs
 
--- src/sized.rt:13:1
 same-length-3 : tie.Need-same-length-3
 same-length-3 c = search needs
 
--- src/sized.rt:13:1
 same-length-4 : tie.Need-same-length-4
 same-length-4 c = search needs
 
--- src/sized.rt:13:1
 returns : tie.Need-returns
 returns c =
-    let s = c .before .before .before .before .before .before .before .before .before .before .before .before .before .before .before .before .before .before .before .before .before .before in
-    let e = c .before .before .before .before .before .before .before .before .before .before .before .before .before .before .before .before .of .ensures in
-    let rules = c .before .before .before .before .before .before .before .before .before .before .before .before .before .before .before .decode-all .result in
+    let s = c .before .before .before .before .before .before .before .before .before .before .before .before .before .before .before .before .before .before .before .before .before .before .before .before in
+    let e = c .before .before .before .before .before .before .before .before .before .before .before .before .before .before .before .before .before .before .of .ensures in
+    let rules = c .before .before .before .before .before .before .before .before .before .before .before .before .before .before .before .before .before .decode-all .result in
     closed-decoded (s .args .card .now) (s .args .words .now) (s .args .n) (s .args .room) (s .pre .0) rules
-    (decoded-as (s .args .card .now) rules (e .productions) (c .before .before .before .before .before .before .before .before .before .before .before .before .before .before .before .decode-all .ensures))
+    (decoded-as (s .args .card .now) rules (e .productions) (c .before .before .before .before .before .before .before .before .before .before .before .before .before .before .before .before .before .decode-all .ensures))
     (closed-as (s .args .room) (s .args .n) rules (s .args .words .now) (e .productions) (e .nonterminals) (c .before .before .before .before .before .before .before .before .close-all .ensures))
 
 pub build-with-spec : {M : Type 1} → statement M

@@ -1,51 +1,45 @@
--- `chart::cell::fill_splits` meets its contract. The loop's invariant: what the splits before k add has been added and fits.
+-- `cell::across_splits` meets its contract. The loop's invariant: what the rule adds at the splits before k has been added and fits.
 -- The measure is how many splits are left.
-use Prim.Native.Nat.{ℕ, _+_, _*_, _-_, _<_}
+use Prim.Native.Nat.{ℕ, suc, _+_, _*_, _-_, _<_}
 use native.Mathlib.Omega.{arith}
-use mathlib.Core.Path.{_≡_, refl, _∙_, ap}
+use native.Mathlib.Numerals.{add-one}
+use mathlib.Core.Path.{_≡_, _∙_, ap, ap₂}
 use mathlib.Core.Logic.{⊎-elim}
-use mathlib.Core.List.{List, []}
-use lib.Bits.{bitAnd}
+use mathlib.Core.List.{List}
 use lib.ListN.{length, getD}
+use Rattle.grammar.specs.Rewriting.{Rule}
 use Rattle.grammar.specs.Chart.{Record}
-use Rattle.chart_model.specs.Build.{flatUp, atSplit}
+use Rattle.card.specs.Productions.{ruleFrom}
+use Rattle.chart_model.specs.Build.{byRule, ruleAt}
 use Rattle.records.specs.Room.{chartIn}
 use Rattle.records.specs.Index.{spanAt}
-use Rattle.chart.specs.Tables.{grammarIn, chosen}
+use Rattle.steps.specs.Fits.{RuleFits}
+use Rattle.chart.specs.Tables.{packedRule}
 use Rattle.steps.proofs.StepLaws.{Looped, added-as, loop-start, loop-works, loop-kept, loop-turn, loop-over, loop-skip, loop-end}
-use Rattle.chart.proofs.CellLaws.{split-same, split-none, indexed-same, looped-at, looped-same}
-use Rattle.chart.proofs.cell.fill_splits.Statement.{statement}
-use Rattle.chart.proofs.cell.fill_splits.Tie as tie
+use Rattle.chart.proofs.CellLaws.{split-idle, indexed-same, looped-at, looped-same}
+use Rattle.chart.proofs.SetLaws.{rule-fits}
+use Rattle.chart.proofs.cell.across_splits.Statement.{statement}
+use Rattle.chart.proofs.cell.across_splits.Tie as tie
 
 abbrev Inv-loop : tie.InvT-loop
-Inv-loop chart₀ marks₀ index sets z c rules many own count i j k₀ now₀ chart marks k now =
+Inv-loop chart₀ marks₀ index sets z c rules many p count rule bit i j k₀ now₀ chart marks k now =
     Looped (z .words) (z .symbols) (z .room) (c .left) (c .from) (c .to)
-    (atSplit (grammarIn rules many) (chartIn chart₀ (z .base)) (c .left) (c .from) (c .to)) (c .from + 1) (c .to)
+    (ruleAt (chartIn chart₀ (z .base)) (c .left) (c .from) (c .to) p (packedRule (getD rules p 0))) (suc (c .from)) (c .to)
     chart₀ marks₀ count chart marks k now
 
 abbrev μ-loop : tie.MeasureT-loop
-μ-loop chart₀ marks₀ index sets z c rules many own count i j k₀ now₀ chart marks k now = j - k
+μ-loop chart₀ marks₀ index sets z c rules many p count rule bit i j k₀ now₀ chart marks k now = j - k
 
--- The records of a split, and of all.
+-- The records of a split.
 abbrev by : tie.Start Inv-loop μ-loop → ℕ → List Record
 by c =
-    atSplit (grammarIn (c .args .rules) (c .args .many)) (chartIn (c .args .chart .now) (c .args .z .base)) (c .args .c .left)
-    (c .args .c .from) (c .args .c .to)
-
-all : (c : tie.Start Inv-loop μ-loop)
-    → let i = c .args .c .from in
-    let j = c .args .c .to in
-    flatUp (by c) (i + 1) (j - (i + 1)) ≡ flatUp (by c) (i + 1) (j - i - 1)
-all c =
-    let i = c .args .c .from in
-    let j = c .args .c .to in
-    let same : j - (i + 1) ≡ j - i - 1 = omega arith in
-    ap (flatUp (by c) (i + 1)) same
+    ruleAt (chartIn (c .args .chart .now) (c .args .z .base)) (c .args .c .left) (c .args .c .from) (c .args .c .to) (c .args .p)
+    (packedRule (getD (c .args .rules .now) (c .args .p) 0))
 
 -- In a turn the split lies inside the span.
 module _ (c : tie.In-loop Inv-loop μ-loop) where
   abbrev start : tie.Start Inv-loop μ-loop
-  start = c .before .before .before .before .before .before .before .before
+  start = c .before .before .before .before .before .before .before .before .before
 
   after : start .args .c .from < c .before .loop .k
   after = omega (arith, c .before .loop .inv .begun)
@@ -53,15 +47,27 @@ module _ (c : tie.In-loop Inv-loop μ-loop) where
   inside : c .before .loop .k < start .args .c .to
   inside = omega (arith, c .loop-test .taken, c .before .before .wide2 .ensures .0)
 
+  -- The production is there, and the call in a turn adds what it adds at the split.
+  below : start .args .p < 64
+  below = omega (arith, start .pre .6, start .pre .7)
+
+  turned : let args = start .args in
+      byRule (chartIn (c .before .loop .chart) (args .z .base)) (args .c .left) (args .c .from) (c .before .loop .k) (args .c .to) (args .p)
+      (ruleFrom (c .before .before .before .before .rule-at .result)) ≡ by start (c .before .loop .k)
+  turned =
+      let args = start .args in
+      ap₂ (λ (b : List Record) (r : Rule). byRule b (args .c .left) (args .c .from) (c .before .loop .k) (args .c .to) (args .p) r)
+      (loop-kept {f = by start} (c .before .loop .inv) (args .z .base) (start .pre .1)) (c .before .before .before .before .rule-at .ensures)
+
 -- The two places in the table of sets.
 first-there : (c : tie.After-span-at Inv-loop μ-loop) → 2 * c .span-at .result < length (start (c .before) .args .sets .now)
-first-there c = omega (arith, c .span-at .ensures .1, start (c .before) .pre .7 .long)
+first-there c = omega (arith, c .span-at .ensures .1, start (c .before) .pre .8 .long)
 
 second-there : (c : tie.After-span-at2 Inv-loop μ-loop)
     → 2 * c .span-at2 .result + 1 < length (start (c .before .before .before) .args .sets .now)
-second-there c = omega (arith, c .span-at2 .ensures .1, start (c .before .before .before) .pre .7 .long)
+second-there c = omega (arith, c .span-at2 .ensures .1, start (c .before .before .before) .pre .8 .long)
 
--- What stands there, and so what the split adds.
+-- What stands there.
 module _ (c : tie.After-shared-slice-known4 Inv-loop μ-loop) where
   abbrev turn : tie.In-loop Inv-loop μ-loop
   turn = c .before .before .before .before
@@ -72,42 +78,23 @@ module _ (c : tie.After-shared-slice-known4 Inv-loop μ-loop) where
   abbrev at : ℕ → ℕ
   at m = getD (start turn .args .sets .now) m 0
 
-  abbrev first : ℕ
-  first = at (2 * c .before .before .before .span-at .result)
-
-  abbrev second : ℕ
-  second = at (2 * c .before .span-at2 .result + 1)
-
-  first-is : first ≡ at (2 * spanAt (start turn .args .z .words) (start turn .args .c .from) k)
+  first-is : at (2 * c .before .before .before .span-at .result) ≡ at (2 * spanAt (start turn .args .z .words) (start turn .args .c .from) k)
   first-is =
       ap (λ x. at (2 * x))
       (c .before .before .before .span-at .ensures .0
       ∙ ap (λ i. spanAt (start turn .args .z .words) i k) (turn .before .before .before .wide .ensures .0))
 
-  second-is : second ≡ at (2 * spanAt (start turn .args .z .words) k (start turn .args .c .to) + 1)
+  second-is : at (2 * c .before .span-at2 .result + 1) ≡ at (2 * spanAt (start turn .args .z .words) k (start turn .args .c .to) + 1)
   second-is =
       ap (λ x. at (2 * x + 1))
       (c .before .span-at2 .ensures .0
       ∙ ap (λ j. spanAt (start turn .args .z .words) k j) (turn .before .before .wide2 .ensures .0))
 
-  all-added : let args = start turn .args in
-      flatUp
-      (chosen (bitAnd (bitAnd first second) (args .own)) (args .rules) (chartIn (turn .before .loop .chart) (args .z .base))
-      (args .c .left) (args .c .from) k (args .c .to)) 0 64
-      ≡ by (start turn) k
-  all-added =
-      let args = start turn .args in
-      let pre = start turn .pre in
-      split-same (args .rules) (args .many) (pre .7) (pre .8) (args .c .from) k (args .c .to) (after turn) (inside turn) (pre .5)
-      first-is second-is refl (chartIn (turn .before .loop .chart) (args .z .base)) 64
-      (loop-kept {f = by (start turn)} (turn .before .loop .inv) (args .z .base) (pre .1)) (pre .6)
+rule-at-requires : tie.Need-rule-at-requires Inv-loop μ-loop
+rule-at-requires c κs = let s = c .before .before .before .before in omega (arith, s .pre .6, s .pre .7)
 
-  none-added : bitAnd (bitAnd first second) (start turn .args .own) ≡ 0 → by (start turn) k ≡ []
-  none-added =
-      let args = start turn .args in
-      let pre = start turn .pre in
-      split-none (args .rules) (args .many) (pre .7) (pre .8) (args .c .from) k (args .c .to) (after turn) (inside turn) (pre .5)
-      first-is second-is refl
+shl-bit : tie.Need-shl-bit Inv-loop μ-loop
+shl-bit c = let s = c .before .before .before .before .before in omega (arith, s .pre .6, s .pre .7)
 
 wide-requires : tie.Need-wide-requires Inv-loop μ-loop
 wide-requires c κs = tt
@@ -120,8 +107,7 @@ add-k c = omega (arith, c .before .wide .ensures .1)
 
 loop-holds : tie.Need-loop-holds Inv-loop μ-loop
 loop-holds c =
-    looped-at (ap (λ i. i + 1) (c .before .wide .ensures .0))
-    (loop-start (c .before .before .before .before .before .before .pre .0))
+    looped-at (ap (λ i. i + 1) (c .before .wide .ensures .0) ∙ add-one (c .before .before .before .before .before .before .before .args .c .from)) (loop-start (c .before .before .before .before .before .before .before .pre .0))
 
 span-at-requires : tie.Need-span-at-requires Inv-loop μ-loop
 span-at-requires c κs = (
@@ -157,19 +143,21 @@ mul-second-2 c = omega (arith, second-there c, start (c .before .before .before)
 shared-slice-read-second : tie.Need-shared-slice-read-second Inv-loop μ-loop
 shared-slice-read-second c = second-there (c .before)
 
-cast-at-split : tie.Need-cast-at-split Inv-loop μ-loop
-cast-at-split c =
-    let turn = c .before .before .before .before .before .before .before in
-    omega (arith, turn .loop-test .taken, turn .before .before .wide2 .ensures .1)
+cast-by-production : tie.Need-cast-by-production Inv-loop μ-loop
+cast-by-production c = let turn = c .before .before .before .before .before .before .before in omega (arith, inside turn, start turn .pre .5, start turn .pre .0 .wordsFit)
 
-at-split-requires : tie.Need-at-split-requires Inv-loop μ-loop
-at-split-requires c κs =
+cast-by-production-2 : tie.Need-cast-by-production-2 Inv-loop μ-loop
+cast-by-production-2 c = omega (arith, below (c .before .before .before .before .before .before .before))
+
+by-production-requires : tie.Need-by-production-requires Inv-loop μ-loop
+by-production-requires c κs =
     let turn = c .before .before .before .before .before .before .before in
+    let loop = turn .before .loop in
     let pre = start turn .pre in (
-      loop-works (turn .before .loop .inv),
-      omega (arith, turn .before .loop .inv .sofar .grown, pre .1),
-      indexed-same (loop-kept {f = by (start turn)} (turn .before .loop .inv) (start turn .args .z .base) (pre .1)) (pre .2),
-      pre .3,
+      loop-works (loop .inv),
+      omega (arith, loop .inv .sofar .grown, pre .1),
+      indexed-same (loop-kept {f = by (start turn)} (loop .inv) (start turn .args .z .base) (pre .1)) (pre .2),
+      rw (turn .before .before .before .before .rule-at .ensures) (rule-fits (start turn .args .p) (below turn) (pre .3)),
       after turn,
       inside turn,
       pre .5,
@@ -178,20 +166,18 @@ at-split-requires c κs =
 same-length : tie.Need-same-length Inv-loop μ-loop
 same-length c =
     let call = c .before .before .before .before .before .before in
-    call .at-split .ensures .sameRoom ∙ turn (call .before .before .before .before) .before .loop .inv .sofar .sameRoom
+    call .by-production .ensures .sameRoom ∙ turn (call .before .before .before .before) .before .loop .inv .sofar .sameRoom
 
 same-length-2 : tie.Need-same-length-2 Inv-loop μ-loop
 same-length-2 c =
     let call = c .before .before .before .before .before .before in
-    call .at-split .ensures .sameMarks ∙ turn (call .before .before .before .before) .before .loop .inv .sofar .sameMarks
+    call .by-production .ensures .sameMarks ∙ turn (call .before .before .before .before) .before .loop .inv .sofar .sameMarks
 
 returns : tie.Need-returns Inv-loop μ-loop
 returns c =
     let call = c .before .before .before .before .before .before in
-    let sets = call .before .before .before .before in
-    added-as (all (start (turn sets)))
-    (loop-over {f = by (start (turn sets))} (turn sets .before .loop .inv) (inside (turn sets))
-    (added-as (all-added sets) (call .at-split .ensures)) (c .if2 .taken))
+    let here = call .before .before .before .before .before .before .before .before in
+    loop-over {f = by (start here)} (here .before .loop .inv) (inside here) (added-as (turned here) (call .by-production .ensures)) (c .if2 .taken)
 
 add-k-2 : tie.Need-add-k-2 Inv-loop μ-loop
 add-k-2 c =
@@ -204,13 +190,18 @@ loop-less c = omega (arith, c .before .before .before .before .before .loop-test
 loop-again : tie.Need-loop-again Inv-loop μ-loop
 loop-again c =
     let sets = c .before in
-    let loop = turn sets .before .loop in
-    let f = by (start (turn sets)) in
+    let here = turn sets in
+    let loop = here .before .loop in
+    let args = start here .args in
+    let pre = start here .pre in
+    let f = by (start here) in
     ⊎-elim
     (λ w. looped-same {f = f} (w .10) (w .11) (w .12)
-    (loop-turn {f = f} (loop .inv) (inside (turn sets)) (added-as (all-added sets) (w .3 .ensures)) (w .9 .left)))
+    (loop-turn {f = f} (loop .inv) (inside here) (added-as (turned here) (w .3 .ensures)) (w .9 .left)))
     (λ w. looped-same {f = f} (w .1) (w .2) (w .3)
-    (loop-skip {f = f} (loop .inv) (inside (turn sets)) (none-added sets (w .0 .left))))
+    (loop-skip {f = f} (loop .inv) (inside here)
+    (split-idle (args .rules .now) (args .many) (args .c .left) (args .c .from) (loop .k) (args .c .to) (args .p) (pre .8) (pre .7)
+    (omega (arith, below here, pre .3 .long)) (after here) (inside here) (pre .5) (first-is sets) (second-is sets) (below here) (w .0 .left))))
     (c .if1 .came)
 
 same-length-3 : tie.Need-same-length-3 Inv-loop μ-loop
@@ -220,16 +211,16 @@ same-length-4 : tie.Need-same-length-4 Inv-loop μ-loop
 same-length-4 c = c .before .loop .inv .sofar .sameMarks
 
 returns-2 : tie.Need-returns-2 Inv-loop μ-loop
-returns-2 c =
-    added-as (all (c .before .before .before .before .before .before .before .before))
-    (loop-end (c .before .loop .inv) (omega (arith, c .loop-test .left, c .before .before .wide2 .ensures .0)))
+returns-2 c = loop-end (c .before .loop .inv) (omega (arith, c .loop-test .left, c .before .before .wide2 .ensures .0))
 
-pub fill-splits-spec : {M : Type 1} → statement M
-fill-splits-spec =
+pub across-splits-spec : {M : Type 1} → statement M
+across-splits-spec =
     tie.close
     (tie.spec
     Inv-loop
     μ-loop
+    rule-at-requires
+    shl-bit
     wide-requires
     wide-requires-2
     add-k
@@ -243,8 +234,9 @@ fill-splits-spec =
     add-second
     mul-second-2
     shared-slice-read-second
-    cast-at-split
-    at-split-requires
+    cast-by-production
+    cast-by-production-2
+    by-production-requires
     same-length
     same-length-2
     returns

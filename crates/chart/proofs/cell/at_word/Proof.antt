@@ -1,0 +1,50 @@
+-- `cell::at_word` meets its contract: one record where the rule is the word production of the cell, and none where it is not.
+use mathlib.Core.Path.{sym, _∙_}
+use Rattle.steps.proofs.StepLaws.{added-as, added-none}
+use Rattle.card.specs.Productions.{ruleFrom}
+use Rattle.chart.proofs.CellLaws.{word-one, word-none}
+use borrow.Author.Needs.{needs}
+use Rattle.chart.proofs.cell.at_word.Statement.{statement}
+use Rattle.chart.proofs.cell.at_word.Tie as tie
+use Rattle.chart.proofs.cell.at_word.Reads as reads
+use Rattle.chart.proofs.cell.at_word.Lts as lts
+use Rattle.chart.proofs.cell.is_word.Reads as is-word-reads
+use Rattle.records.proofs.add.add.Reads as add-reads
+
+is-word-requires : tie.Need-is-word-requires
+is-word-requires c κs = search needs
+
+cast-t12 : tie.Need-cast-t12
+cast-t12 c = search needs
+
+add-requires : tie.Need-add-requires
+add-requires c κs = search needs
+
+same-length : tie.Need-same-length
+same-length c = search needs
+
+same-length-2 : tie.Need-same-length-2
+same-length-2 c = search needs
+
+returns : tie.Need-returns
+returns c =
+    let call = c .before .before .before .before in
+    let test = call .before .before .before in
+    let s = test .before .before .before .before in
+    let a = s .args in
+    added-as
+    (word-one (a .w) (a .c .left) (a .c .from) (a .p) (ruleFrom (a .rule)) (a .c .to) (s .pre .1)
+    (sym (test .before .is-word .ensures) ∙ test .if1 .taken))
+    (call .add .ensures)
+
+returns-2 : tie.Need-returns-2
+returns-2 c =
+    let s = c .before .before .before .before in
+    let a = s .args in
+    added-as (word-none (a .w) (a .c .left) (a .c .from) (a .p) (ruleFrom (a .rule)) (sym (c .before .is-word .ensures) ∙ c .if1 .left))
+    (added-none (s .pre .0))
+
+pub at-word-spec : {M : Type 1} → statement M
+at-word-spec =
+    tie.close
+    (tie.spec is-word-requires cast-t12 add-requires same-length same-length-2 returns returns-2)
