@@ -2,7 +2,7 @@
 -- the derivable items fit the room.
 use Prim.Native.Nat.{ℕ, zero, suc, _+_, _*_, _≤_, _<_}
 use native.Mathlib.Omega.{arith}
-use native.Mathlib.Nat.{le-trans, mul-le-mul-left, mul-le-mul-right, mul-assoc, mul-comm}
+use native.Mathlib.Nat.{mul-le-mul}
 use mathlib.Core.Path.{_≡_, refl, sym, _∙_, ap, subst, subst₂}
 use mathlib.Core.List.{List, [], _∷_, _++_, map}
 use mathlib.Core.Option.{Option, none, some}
@@ -15,6 +15,8 @@ use Rattle.grammar.proofs.InputLaws.{words-below}
 use Rattle.layout.specs.Card.{nonterminalCount, productionCount, grammarOf, cardNumber}
 use Rattle.layout.specs.Records.{chartBytes, capacity}
 use Rattle.layout.proofs.CardLaws.{card-one-sided}
+use Rattle.records.specs.Index.{spans}
+use Rattle.records.proofs.TableLaws.{spans-more}
 use Rattle.chart_model.specs.Build.{build}
 use Rattle.chart_model.proofs.Exact.{build-chart, build-room, build-none}
 use Rattle.chart.specs.declared.Built.{Built}
@@ -29,37 +31,34 @@ use Rattle.chart.proofs.CardFits.{counts-fit, lefts-below}
 all-zero : (l : List ℕ) → l ≡ replicate (length l) 0 → (k : ℕ) → getD l k 0 ≡ 0
 all-zero l e k = ap (λ (m : List ℕ). getD m k 0) e ∙ zero-at (length l) k
 
-pub tables-start : {g : List Rule} (card words : List ℕ) (n room : ℕ) {chart marks index sets : List ℕ} → Buildable card words n
-    → RoomLent room chart → TablesLent n (nonterminalCount card) marks index sets
-    → Between g n (nonterminalCount card) room chart marks index sets 0
+pub tables-start : {g : List Rule} (card words : List ℕ) (n room : ℕ) {chart marks index covers sets : List ℕ} → Buildable card words n
+    → RoomLent room chart → TablesLent n (nonterminalCount card) marks index sets covers
+    → Between g n (nonterminalCount card) room chart marks index covers sets 0
 tables-start card words n room {marks = marks} {index = index} b l t =
     start-between (b .short) (counts-fit card (b .accepted) .symbols .1) (l .small) (l .there) (t .marksThere) (t .indexThere)
-    (t .setsThere) (all-zero marks (t .marksZero)) (all-zero index (t .indexZero))
+    (t .setsThere) (all-zero marks (t .marksZero)) (all-zero index (t .indexZero)) (t .coversThere) (t .coversZero)
 
-pub square-most : (n m : ℕ) → n ≤ m → n * n ≤ m * m
-square-most n m h = le-trans (mul-le-mul-left n h) (mul-le-mul-right m h)
-
--- Tables of zeros that are long enough for m words and so many cells, n * n for each of N nonterminals.
-pub tables-lent : (n N m cells a b c : ℕ) → n ≤ m → n * n * N ≤ cells → cells < a → 3 * cells ≤ b → 2 * (m * m) ≤ c
-    → TablesLent n N (replicate a 0) (replicate b 0) (replicate c 0)
-tables-lent n N m cells a b c h few x y z =
-    let square = square-most n m h in
-    let same : N * n * n ≡ n * n * N = mul-assoc N n n ∙ mul-comm N (n * n) in
+-- Tables of zeros that are long enough for m words and M nonterminals are so for fewer.
+pub tables-lent : (n N m M a b c d : ℕ) → n ≤ m → N ≤ M → M * m * m < a → 3 * (spans m * M) ≤ b → 2 * spans m ≤ c → spans m * M ≤ d
+    → TablesLent n N (replicate a 0) (replicate b 0) (replicate c 0) (replicate d 0)
+tables-lent n N m M a b c d h k x y z w =
+    let marks : N * n * n ≤ M * m * m = mul-le-mul (mul-le-mul k h) h in
+    let more = spans-more n m h in
+    let cells : spans n * N ≤ spans m * M = mul-le-mul more k in
     let ra = length-replicate {A = ℕ} a 0 in
     let rb = length-replicate {A = ℕ} b 0 in
     let rc = length-replicate {A = ℕ} c 0 in
+    let rd = length-replicate {A = ℕ} d 0 in
     record {
       marksZero = ap (λ (k : ℕ). replicate k 0) (sym ra);
       indexZero = ap (λ (k : ℕ). replicate k 0) (sym rb);
       setsZero = ap (λ (k : ℕ). replicate k 0) (sym rc);
+      coversZero = ap (λ (k : ℕ). replicate k 0) (sym rd);
       marksThere = omega arith;
       indexThere = omega arith;
       setsThere = omega arith;
+      coversThere = omega arith;
     }
-
--- No more cells than for m words and 16 nonterminals.
-pub cells-most : (n N m : ℕ) → n ≤ m → N ≤ 16 → n * n * N ≤ m * m * 16
-cells-most n N m a b = le-trans (mul-le-mul-left (n * n) b) (mul-le-mul-right 16 (square-most n m a))
 
 pub closed-as : {many many′ N N′ after : ℕ} {old new : List ℕ} (room n : ℕ) (rules : List ℕ) (words : List ℕ) → many ≡ many′ → N ≡ N′
     → Closed room (build room (grammarIn rules many) (wordIs (take n words)) N n) old new after

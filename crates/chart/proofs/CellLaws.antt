@@ -26,9 +26,11 @@ use Rattle.card.specs.declared.Production.{Production}
 use Rattle.card.specs.declared.Production.the-variants.{Word}
 use Rattle.chart_model.specs.Build.{flatUp, places, barePlaces, byAction, byRule, byWord, byRuleOver, byProduction, candidates}
 use Rattle.records.specs.Bits.{bitOf}
+use Rattle.records.specs.Room.{chartIn}
 use Rattle.records.specs.Index.{spanAt, Indexed}
 use Rattle.chart.specs.Tables.{FirstAbsent, SecondAbsent, leftIs, packedRule, rulesFrom, grammarIn, byOne, chosen, CellSet, thisWord, isWordOf, Sorted}
-use Rattle.steps.proofs.StepLaws.{Looped, loop-skip, flatUp-add, flatUp-none}
+use Rattle.steps.proofs.StepLaws.{flatUp-add, flatUp-none}
+use Rattle.steps.proofs.StepCover.{Advancing, advance-skip}
 use Rattle.records.proofs.BitLaws.{bitOf-below, bitOf-value, bitOf-and, bit-clear, one-shifted, halved-out}
 
 -- Rules: the one at a place, and the first `many`.
@@ -99,14 +101,14 @@ indexed-same {n} {N} {index = index} e h = subst (λ b. Indexed n N b index) (sy
 pub sorted-same : {g : List Rule} {n : ℕ} {b c : List Record} {sets : List ℕ} → c ≡ b → Sorted g n b sets → Sorted g n c sets
 sorted-same {g} {n} {sets = sets} e h = subst (λ b. Sorted g n b sets) (sym e) h
 
-pub looped-at : {n N room A i j : ℕ} {f : ℕ → List Record} {from to : ℕ} {old om new nm : List ℕ} {count y y′ after : ℕ} → y′ ≡ y
-    → Looped n N room A i j f from to old om count new nm y after → Looped n N room A i j f from to old om count new nm y′ after
-looped-at e l = rw e l
+module _ {n N room A i j base : ℕ} {F : List Record → ℕ → List Record} {from to : ℕ} {old oldMarks oldCovers new marks covers : List ℕ}
+    {count y after : ℕ} (l : Advancing n N room A i j base F from to old oldMarks oldCovers count new marks covers y after) where
+  pub advance-at : {y′ : ℕ} → y′ ≡ y → Advancing n N room A i j base F from to old oldMarks oldCovers count new marks covers y′ after
+  advance-at e = rw e l
 
-pub looped-same : {n N room A i j : ℕ} {f : ℕ → List Record} {from to : ℕ} {old om new nm new′ nm′ : List ℕ}
-    {count y after after′ : ℕ} → new′ ≡ new → nm′ ≡ nm → after′ ≡ after
-    → Looped n N room A i j f from to old om count new nm y after → Looped n N room A i j f from to old om count new′ nm′ y after′
-looped-same e₁ e₂ e₃ l = rw (e₁, e₂, e₃) l
+  pub advance-same : {new′ marks′ covers′ : List ℕ} {after′ : ℕ} → new′ ≡ new → marks′ ≡ marks → covers′ ≡ covers → after′ ≡ after
+      → Advancing n N room A i j base F from to old oldMarks oldCovers count new′ marks′ covers′ y after′
+  advance-same p q r s = rw (p, q, r, s) l
 
 -- Places at which two functions agree; places past the last at which there is anything.
 flatUp-same : {A : Type 0} (f g : ℕ → List A) (from m : ℕ) → ((k : ℕ) → from ≤ k → k < from + m → f k ≡ g k)
@@ -133,7 +135,7 @@ and-zero p x y e = elim (ℕ-discrete (bitOf p x) 0) [
 -- A split at which the bit of p is not in both sets: production p adds nothing there.
 pub split-idle : {n : ℕ} {b : List Record} {sets : List ℕ} (rules : List ℕ) (many A i k j p : ℕ)
     → Sorted (grammarIn rules many) n b sets → p < many → p < length rules → i < k → k < j → j ≤ n → {first second : ℕ}
-    → first ≡ getD sets (2 * spanAt n i k) 0 → second ≡ getD sets (2 * spanAt n k j + 1) 0 → p < 64
+    → first ≡ getD sets (2 * spanAt i k) 0 → second ≡ getD sets (2 * spanAt k j + 1) 0 → p < 64
     → bitAnd (bitAnd first second) ((1 * 2 ^ p) % 2 ^ 64) ≡ 0 → byRule b A i k j p (packedRule (getD rules p 0)) ≡ []
 split-idle {n} {b} rules many A i k j p sorted l there ik kj jn {first} {second} e₁ e₂ h z =
     let r = packedRule (getD rules p 0) in
@@ -216,13 +218,16 @@ bit-within {set = set} many p s left cell e l one = elim (decLt (p + s) many) [
 ]
 
 -- Places at which a loop has nothing to add.
-pub loop-pass : {n N room A i j : ℕ} {f : ℕ → List Record} {from to : ℕ} {old om new nm : List ℕ} {count y after : ℕ} (s : ℕ)
-    → y + s ≤ to → ((q : ℕ) → y ≤ q → q < y + s → f q ≡ [])
-    → Looped n N room A i j f from to old om count new nm y after → Looped n N room A i j f from to old om count new nm (y + s) after
-loop-pass {y = y} zero h empty l = looped-at (omega arith) l
-loop-pass {y = y} (suc s) h empty l =
-    looped-at (omega arith)
-    (loop-skip (loop-pass s (omega arith) (λ q a b. empty q a (omega arith)) l) (omega arith) (empty (y + s) (omega arith) (omega arith)))
+pub advance-pass : {n N room A i j base : ℕ} {F : List Record → ℕ → List Record} {from to : ℕ}
+    {old oldMarks oldCovers new marks covers : List ℕ} {count y after : ℕ} (s : ℕ) → y + s ≤ to
+    → ((q : ℕ) → y ≤ q → q < y + s → F (chartIn old base) q ≡ [])
+    → Advancing n N room A i j base F from to old oldMarks oldCovers count new marks covers y after
+    → Advancing n N room A i j base F from to old oldMarks oldCovers count new marks covers (y + s) after
+advance-pass {y = y} zero h empty l = advance-at l (omega arith)
+advance-pass {y = y} (suc s) h empty l =
+    advance-at
+    (advance-skip (advance-pass s (omega arith) (λ q a b. empty q a (omega arith)) l) (omega arith)
+    (empty (y + s) (omega arith) (omega arith))) (omega arith)
 
 -- The productions of a set that has all that add to a cell add its candidates.
 by-one : (at : ℕ → ℕ → Bool) (b : List Record) (A i len p : ℕ) (o : Option Rule)

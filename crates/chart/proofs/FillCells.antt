@@ -14,13 +14,15 @@ use Rattle.grammar.specs.Rewriting.{Rule, Lexical, Spine}
 use Rattle.grammar.specs.Input.{wordIs}
 use Rattle.grammar.specs.Chart.{Record}
 use Rattle.chart_model.specs.Build.{places, barePlaces, byWord, acrossSplits, byRuleOver, addEach, fillCell}
-use Rattle.chart_model.proofs.FillModel.{IsCell, Grown, cell-grown, places-other, bareAt, bares-own, fresh-among}
+use Rattle.chart_model.proofs.FillModel.{IsCell, Grown, same, cell-grown, places-other, bareAt, bares-own, fresh-among}
 use Rattle.records.specs.declared.index.Range.{Range}
-use Rattle.records.specs.Room.{chartIn, stateOf, Added}
-use Rattle.records.specs.Index.{cellAt, bareIn}
+use Rattle.records.specs.Room.{chartIn, stateOf}
+use Rattle.records.specs.Index.{cellAt, bareIn, SpanFits}
+use Rattle.records.specs.Cover.{Covered, Advanced}
 use Rattle.chart.specs.Tables.{thisWord, rulesFrom, grammarIn, Finished}
 use Rattle.chart.specs.Fill.{Classified, Noted, Between, Filled, OtherCell}
 use Rattle.records.proofs.RoomLaws.{chart-length, chart-kept-below}
+use Rattle.records.proofs.CoverLaws.{grown-has, grown-others, end-covered}
 use Rattle.chart.proofs.FillLaws.{state-some, entered, entered-within, bareFrom-at, bareFrom-le, indexed-more, sorted-more, marks-clear}
 
 -- The word at a place of the line.
@@ -61,18 +63,13 @@ module _ (c : List Record) (A i : ℕ) where
           subst (λ (x : ℕ). acrossSplits c A i j p r ≡ byRuleOver at c A i x p r) (sym e)
           (subst (λ (j′ : ℕ). acrossSplits c A i j′ p r ≡ byRuleOver at c A i (suc (suc len)) p r) s refl)
 
-pub added-same : {n N room A i j count after : ℕ} {rs rs′ : List Record} {old oldMarks new newMarks : List ℕ} → rs ≡ rs′
-    → Added n N room A i j rs old oldMarks count new newMarks after → Added n N room A i j rs′ old oldMarks count new newMarks after
-added-same {n} {N} {room} {A} {i} {j} {count} {after} {old = old} {oldMarks} {new} {newMarks} e a =
-    subst (λ (rs : List Record). Added n N room A i j rs old oldMarks count new newMarks after) e a
-
 pub grammar-length : (rules : List ℕ) (many : ℕ) → length (grammarIn rules many) ≤ many
 grammar-length rules many = omega (arith, length-take many (rulesFrom rules))
 
 -- An item did not fit: nothing more is promised.
 pub over-filled : {g : List Rule} {n N room count after : ℕ} {Other : ℕ → ℕ → ℕ → Type 0} {s : Option (List Record)}
-    {old new marks index sets : List ℕ} → length new ≡ length old → stateOf room new after ≡ s → room < after
-    → Filled g n N room Other s old count new marks index sets after
+    {old new marks index covers sets : List ℕ} → length new ≡ length old → stateOf room new after ≡ s → room < after
+    → Filled g n N room Other s old count new marks index covers sets after
 over-filled a e l =
     record {
       sameRoom = a;
@@ -82,15 +79,23 @@ over-filled a e l =
       others = λ h. absurd (omega arith);
     }
 
--- A cell without candidates that are new: all is as it was.
-pub same-filled : {g : List Rule} {n N room count after : ℕ} {old oldMarks index sets new marks : List ℕ} {rs : List Record}
-    (A i j : ℕ) → Between g n N room old oldMarks index sets count → places (chartIn old count) A i j ≡ []
-    → Added n N room A i j rs old oldMarks count new marks after → after ≡ count
-    → Filled g n N room (OtherCell A i j) (addEach room rs (some (chartIn old count))) old count new marks index sets after
-same-filled {room = room} {count} {after} {old} {new = new} A i j b fresh a e =
+-- The table of covers once a cell is filled, which may have changed although the cell got nothing new.
+cell-covered : {n N room count after : ℕ} {old oldMarks new marks covers : List ℕ} {rs : List Record} (A i j : ℕ) → SpanFits n N A i j
+    → places (chartIn old count) A i j ≡ [] → Advanced n N room A i j count rs old oldMarks count new marks covers after → after ≤ room
+    → Grown (IsCell A i j) (chartIn old count) (chartIn new after) → Covered n N (chartIn new after) covers
+cell-covered A i j within fresh a fits grown =
+    end-covered (a .covering fits) within (grown-has grown) (grown-others grown) fresh
+
+-- A cell without candidates that are new: the room is as it was.
+pub same-filled : {g : List Rule} {n N room count after : ℕ} {old oldMarks index covers sets new marks covers′ : List ℕ}
+    {rs : List Record} (A i j : ℕ) → Between g n N room old oldMarks index covers sets count → SpanFits n N A i j
+    → places (chartIn old count) A i j ≡ [] → Advanced n N room A i j count rs old oldMarks count new marks covers′ after → after ≡ count
+    → Filled g n N room (OtherCell A i j) (addEach room rs (some (chartIn old count))) old count new marks index covers′ sets after
+same-filled {room = room} {count} {after} {old} {new = new} A i j b within fresh advanced e =
+    let a = advanced .added in
     let fits : after ≤ room = omega (arith, b .countFits) in
     let w = a .works fits in
-    let same : chartIn new after ≡ chartIn old count = rw e (chart-kept-below old new count count (le-refl count) (a .kept)) in
+    let kept : chartIn new after ≡ chartIn old count = rw e (chart-kept-below old new count count (le-refl count) (a .kept)) in
     record {
       sameRoom = a .sameRoom;
       model = a .model;
@@ -104,12 +109,14 @@ same-filled {room = room} {count} {after} {old} {new = new} A i j b fresh a e =
         countFits = w .countFits;
         exact = w .exact;
         feet = w .feet;
-        clear = λ φ f. w .marked φ f ∙ rw same (fresh-among (chartIn old count) A i j φ fresh);
-        indexed = rw same (b .indexed);
+        clear = λ φ f. w .marked φ f ∙ rw kept (fresh-among (chartIn old count) A i j φ fresh);
+        indexed = rw kept (b .indexed);
         within = rw e (b .within);
-        sorted = rw same (b .sorted);
+        sorted = rw kept (b .sorted);
+        covered = cell-covered A i j within fresh advanced fits
+            (subst (λ (c : List Record). Grown (IsCell A i j) (chartIn old count) c) (sym kept) same);
       };
-      others = λ _ A′ i′ j′ o. rw same;
+      others = λ _ A′ i′ j′ o. rw kept;
     }
 
 -- How a cell has grown the chart.
@@ -132,15 +139,16 @@ range-small {chart} {base = base} {count} f a b =
     )
 
 -- A cell that got records, once its marks are gone, its range is in the index and its productions are noted.
-cell-ready : {g : List Rule} {n N room base count after : ℕ} {old oldMarks index sets new marks marks′ sets′ by : List ℕ}
-    {rs : List Record} {r : Range} (A i j : ℕ) → Between g n N room old oldMarks index sets count → Classified g by → A < N → i < j
-    → j ≤ n → places (chartIn old count) A i j ≡ [] → Added n N room A i j rs old oldMarks count new marks after
+cell-ready : {g : List Rule} {n N room base count after : ℕ} {old oldMarks index covers sets new marks marks′ covers′ sets′ by : List ℕ}
+    {rs : List Record} {r : Range} (A i j : ℕ) → Between g n N room old oldMarks index covers sets count → Classified g by → A < N → i < j
+    → j ≤ n → places (chartIn old count) A i j ≡ [] → Advanced n N room A i j count rs old oldMarks count new marks covers′ after
     → Grown (IsCell A i j) (chartIn old count) (chartIn new after) → after ≤ room → base ≡ count
-    → Finished new n base after marks marks′ r → 3 * cellAt n N A i j + 3 ≤ length index → Noted n by A i j (r .bare) sets sets′
+    → Finished new n base after marks marks′ r → 3 * cellAt N A i j + 3 ≤ length index → Noted n by A i j (r .bare) sets sets′
     → Filled g n N room (OtherCell A i j) (addEach room rs (some (chartIn old count))) old count new marks′
-    (entered index (cellAt n N A i j) r) sets′ after
+    (entered index (cellAt N A i j) r) covers′ sets′ after
 cell-ready {n = n} {N} {room} {base} {count} {after} {old} {index = index} {sets} {new} {sets′ = sets′} {by} {r = r} A i j
-    b classes inN ij jn fresh a grown fits eq done l noted =
+    b classes inN ij jn fresh advanced grown fits eq done l noted =
+    let a = advanced .added in
     let w = a .works fits in
     let few = chart-length old count in
     let many = chart-length new after in
@@ -171,23 +179,24 @@ cell-ready {n = n} {N} {room} {base} {count} {after} {old} {index = index} {sets
         clear = marks-clear N A i j fresh grown (eq ∙ sym few) (w .marked) done;
         indexed = indexed-more n N A i j inN ij jn fresh grown index r l from to last (omega arith) (b .indexed)
             (λ k. rw few (b .within k));
-        within = entered-within index (cellAt n N A i j) after r (λ k. omega (arith, b .within k)) (omega arith) (omega arith) small;
+        within = entered-within index (cellAt N A i j) after r (λ k. omega (arith, b .within k)) (omega arith) (omega arith) small;
         sorted = sorted-more _ n A i j (omega (arith, b .symbolsFit)) ij jn grown by sets sets′ (r .bare) classes (b .sorted) noted lone;
+        covered = cell-covered A i j (inN, ij, jn) fresh advanced fits grown;
       };
       others = λ _ A′ i′ j′ o. places-other A′ i′ j′ (λ (x, y, z). o x y z) grown;
     }
 
 -- The same where the place in the index is known by equations.
-pub cell-place : {k a x y A i j : ℕ} (n N : ℕ) → k ≡ cellAt n N a x y → a ≡ A → x ≡ i → y ≡ j → k ≡ cellAt n N A i j
+pub cell-place : {k a x y A i j : ℕ} (n N : ℕ) → k ≡ cellAt N a x y → a ≡ A → x ≡ i → y ≡ j → k ≡ cellAt N A i j
 cell-place n N e p q r = e ∙ rw (p, q, r)
 
-pub cell-filled : {g : List Rule} {n N room base count after : ℕ} {old oldMarks index sets new marks marks′ index′ sets′ by : List ℕ}
-    {rs : List Record} {r : Range} (A i j cell : ℕ) → Between g n N room old oldMarks index sets count → Classified g by → A < N → i < j
-    → j ≤ n → places (chartIn old count) A i j ≡ [] → Added n N room A i j rs old oldMarks count new marks after
+pub cell-filled : {g : List Rule} {n N room base count after : ℕ} {old oldMarks index covers sets new marks marks′ index′ covers′ sets′ by : List ℕ}
+    {rs : List Record} {r : Range} (A i j cell : ℕ) → Between g n N room old oldMarks index covers sets count → Classified g by → A < N → i < j
+    → j ≤ n → places (chartIn old count) A i j ≡ [] → Advanced n N room A i j count rs old oldMarks count new marks covers′ after
     → Grown (IsCell A i j) (chartIn old count) (chartIn new after) → after ≤ room → base ≡ count
-    → Finished new n base after marks marks′ r → cell ≡ cellAt n N A i j → 3 * cell + 3 ≤ length index → index′ ≡ entered index cell r
+    → Finished new n base after marks marks′ r → cell ≡ cellAt N A i j → 3 * cell + 3 ≤ length index → index′ ≡ entered index cell r
     → Noted n by A i j (r .bare) sets sets′
-    → Filled g n N room (OtherCell A i j) (addEach room rs (some (chartIn old count))) old count new marks′ index′ sets′ after
+    → Filled g n N room (OtherCell A i j) (addEach room rs (some (chartIn old count))) old count new marks′ index′ covers′ sets′ after
 cell-filled {n = n} {N} {index = index} {r = r} A i j cell b classes inN ij jn fresh a grown fits eq done e l put noted =
     rw (put, e)
     (cell-ready A i j b classes inN ij jn fresh a grown fits eq done

@@ -9,7 +9,7 @@ use mathlib.Core.Logic.{_⊎_, inl, inr}
 use mathlib.Core.Bool.{Bool, true, false, cond}
 use mathlib.Core.List.{List, [], _∷_, map}
 use mathlib.Core.Option.{Option, none, some}
-use lib.ListN.{length, getD, set, getElem?, length-set}
+use lib.ListN.{length, getD, set, getElem?, replicate, length-set}
 use lib.Seq.{getD-set-same, getD-set-other}
 use borrow.Author.Tests.{le-ltb, le-leb, lt-leb}
 use Rattle.grammar.specs.Rewriting.{Rule, Lexical, Spine}
@@ -23,15 +23,16 @@ use Rattle.chart_model.proofs.FillModel.{IsCell, Grown, grown-length, places-ot
 use Rattle.records.specs.declared.index.Range.{Range}
 use Rattle.records.specs.Bits.{bitOf, holdsBit}
 use Rattle.records.specs.Room.{chartIn, stateOf, footThere, FootFits, markSlot, markBit, markOf, Marked, Working}
-use Rattle.records.specs.Index.{spanAt, cellAt, emptyRange, rangeIn, bareIn, Indexed}
+use Rattle.records.specs.Index.{spans, spanAt, cellAt, emptyRange, rangeIn, bareIn, Indexed}
 use Rattle.chart.specs.Tables.{FirstAbsent, SecondAbsent, Sorted, bareFrom, Finished}
 use Rattle.chart.specs.Fill.{Classified, Noted, Between}
 use Rattle.records.proofs.RoomLaws.{chart-length, foot-at}
 use Rattle.records.proofs.TableLaws.{span-same, cell-same}
+use Rattle.records.proofs.CoverLaws.{covered-start}
 
 -- A cell without records may be begun.
-pub fresh-working : {g : List Rule} {n N room count : ℕ} {chart marks index sets : List ℕ} (A i j : ℕ)
-    → Between g n N room chart marks index sets count → places (chartIn chart count) A i j ≡ []
+pub fresh-working : {g : List Rule} {n N room count : ℕ} {chart marks index covers sets : List ℕ} (A i j : ℕ)
+    → Between g n N room chart marks index covers sets count → places (chartIn chart count) A i j ≡ []
     → Working n N room A i j chart marks count
 fresh-working {count = count} {chart = chart} A i j b empty =
     record {
@@ -136,11 +137,11 @@ Says b A i j r = (places b A i j ≡ counted (r .from) (r .to - r .from)) × (ba
 
 module _ (n N A i j : ℕ) (inN : A < N) (ij : i < j) (jn : j ≤ n) {c b : List Record} (fresh : places c A i j ≡ [])
     (grown : Grown (IsCell A i j) c b) where
-  indexed-here : (index : List ℕ) (r : Range) → 3 * cellAt n N A i j + 3 ≤ length index → r .from ≡ length c → r .to ≡ length b
+  indexed-here : (index : List ℕ) (r : Range) → 3 * cellAt N A i j + 3 ≤ length index → r .from ≡ length c → r .to ≡ length b
       → r .bare ≡ bareAt b (length c) (length b - length c) → r .bare ≤ length b
-      → Says b A i j (rangeIn (entered index (cellAt n N A i j) r) (cellAt n N A i j) (length b))
+      → Says b A i j (rangeIn (entered index (cellAt N A i j) r) (cellAt N A i j) (length b))
   indexed-here index r l from to last small =
-      let cell = cellAt n N A i j in
+      let cell = cellAt N A i j in
       let here = entered-here index cell r l in
       let long = grown-length grown in
       let size : length b ≡ length c + (length b - length c) = omega arith in
@@ -153,11 +154,11 @@ module _ (n N A i j : ℕ) (inN : A < N) (ij : i < j) (jn : j ≤ n) {c b : List
       )
 
   indexed-other : (index : List ℕ) (r : Range) → Indexed n N c index → ((k : ℕ) → getD index k 0 ≤ length c) → (A′ i′ j′ : ℕ) → A′ < N
-      → i′ < j′ → j′ ≤ n → (cellAt n N A i j ≡ cellAt n N A′ i′ j′ → ⊥)
-      → Says b A′ i′ j′ (rangeIn (entered index (cellAt n N A i j) r) (cellAt n N A′ i′ j′) (length b))
+      → i′ < j′ → j′ ≤ n → (cellAt N A i j ≡ cellAt N A′ i′ j′ → ⊥)
+      → Says b A′ i′ j′ (rangeIn (entered index (cellAt N A i j) r) (cellAt N A′ i′ j′) (length b))
   indexed-other index r old small A′ i′ j′ x y z d =
-      let cell = cellAt n N A i j in
-      let cell′ = cellAt n N A′ i′ j′ in
+      let cell = cellAt N A i j in
+      let cell′ = cellAt N A′ i′ j′ in
       let here = entered-other index cell cell′ r (λ e. d (sym e)) in
       let long = grown-length grown in
       let range : rangeIn (entered index cell r) cell′ (length b) ≡ rangeIn index cell′ (length c) =
@@ -169,9 +170,9 @@ module _ (n N A i j : ℕ) (inN : A < N) (ij : i < j) (jn : j ≤ n) {c b : List
       subst (Says b A′ i′ j′) (sym range)
       (places-other A′ i′ j′ out grown ∙ old .ranges A′ i′ j′ x y z, bares-other A′ i′ j′ out grown ∙ old .bares A′ i′ j′ x y z)
 
-  pub indexed-more : (index : List ℕ) (r : Range) → 3 * cellAt n N A i j + 3 ≤ length index → r .from ≡ length c → r .to ≡ length b
+  pub indexed-more : (index : List ℕ) (r : Range) → 3 * cellAt N A i j + 3 ≤ length index → r .from ≡ length c → r .to ≡ length b
       → r .bare ≡ bareAt b (length c) (length b - length c) → r .bare ≤ length b → Indexed n N c index
-      → ((k : ℕ) → getD index k 0 ≤ length c) → Indexed n N b (entered index (cellAt n N A i j) r)
+      → ((k : ℕ) → getD index k 0 ≤ length c) → Indexed n N b (entered index (cellAt N A i j) r)
   indexed-more index r l from to last small old within =
       record {
         long = simp length-set (old .long);
@@ -180,10 +181,10 @@ module _ (n N A i j : ℕ) (inN : A < N) (ij : i < j) (jn : j ≤ n) {c b : List
       }
     where
       says : (A′ i′ j′ : ℕ) → A′ < N → i′ < j′ → j′ ≤ n
-          → Says b A′ i′ j′ (rangeIn (entered index (cellAt n N A i j) r) (cellAt n N A′ i′ j′) (length b))
-      says A′ i′ j′ x y z = elim (ℕ-discrete (cellAt n N A i j) (cellAt n N A′ i′ j′)) [
+          → Says b A′ i′ j′ (rangeIn (entered index (cellAt N A i j) r) (cellAt N A′ i′ j′) (length b))
+      says A′ i′ j′ x y z = elim (ℕ-discrete (cellAt N A i j) (cellAt N A′ i′ j′)) [
         | yes e ↦ let (p, q, s) = cell-same n N A i j A′ i′ j′ inN ij jn x y z e in
-            subst₃ (λ (A′ i′ j′ : ℕ). Says b A′ i′ j′ (rangeIn (entered index (cellAt n N A i j) r) (cellAt n N A′ i′ j′) (length b)))
+            subst₃ (λ (A′ i′ j′ : ℕ). Says b A′ i′ j′ (rangeIn (entered index (cellAt N A i j) r) (cellAt N A′ i′ j′) (length b)))
             p q s (indexed-here index r l from to last small)
         | no d ↦ indexed-other index r old within A′ i′ j′ x y z d
       ]
@@ -207,10 +208,11 @@ bit-zero (suc b) = bit-zero b
 empty-range : (index : List ℕ) (cell : ℕ) → ((k : ℕ) → getD index k 0 ≡ 0) → rangeIn index cell 0 ≡ emptyRange
 empty-range index cell zeros = rw (zeros (3 * cell), zeros (3 * cell + 1), zeros (3 * cell + 2))
 
-pub start-between : {g : List Rule} {n N room : ℕ} {chart marks index sets : List ℕ} → n ≤ 24 → N ≤ 16 → room ≤ 65535
-    → 16 * room ≤ length chart → N * n * n < length marks → 3 * (n * n * N) ≤ length index → 2 * (n * n) ≤ length sets
-    → ((k : ℕ) → getD marks k 0 ≡ 0) → ((k : ℕ) → getD index k 0 ≡ 0) → Between g n N room chart marks index sets 0
-start-between {n = n} {N} {marks = marks} {index} a b c d e f h unmarked zeros =
+pub start-between : {g : List Rule} {n N room : ℕ} {chart marks index covers sets : List ℕ} → n ≤ 24 → N ≤ 16 → room ≤ 65535
+    → 16 * room ≤ length chart → N * n * n < length marks → 3 * (spans n * N) ≤ length index → 2 * spans n ≤ length sets
+    → ((k : ℕ) → getD marks k 0 ≡ 0) → ((k : ℕ) → getD index k 0 ≡ 0) → spans n * N ≤ length covers
+    → covers ≡ replicate (length covers) 0 → Between g n N room chart marks index covers sets 0
+start-between {n = n} {N} {marks = marks} {index} a b c d e f h unmarked zeros there uncovered =
     record {
       wordsFit = a;
       symbolsFit = b;
@@ -223,8 +225,8 @@ start-between {n = n} {N} {marks = marks} {index} a b c d e f h unmarked zeros =
       clear = λ φ fits. rw (unmarked (markSlot n φ), bit-zero (markBit φ));
       indexed = record {
         long = f;
-        ranges = λ A i j x y z. rw (empty-range index (cellAt n N A i j) zeros);
-        bares = λ A i j x y z. rw (empty-range index (cellAt n N A i j) zeros);
+        ranges = λ A i j x y z. rw (empty-range index (cellAt N A i j) zeros);
+        bares = λ A i j x y z. rw (empty-range index (cellAt N A i j) zeros);
       };
       within = λ k. omega (arith, zeros k);
       sorted = record {
@@ -232,6 +234,7 @@ start-between {n = n} {N} {marks = marks} {index} a b c d e f h unmarked zeros =
         firsts = λ p r i k x y z w. first-empty i k r;
         seconds = λ p r k j x y z w. second-empty k j r;
       };
+      covered = covered-start there uncovered;
     }
 
 -- What an absence says is the same of a chart with the same positions over the span.
@@ -264,7 +267,7 @@ module _ (g : List Rule) (n A i j : ℕ) (A16 : A < 16) (ij : i < j) (jn : j ≤
     | no d ↦ absurd (h d)
   ]
 
-  first-here : (p : ℕ) (r : Rule) → getElem? g p ≡ some r → bitOf p (getD new (2 * spanAt n i j) 0) ≡ 0 → FirstAbsent b i j r
+  first-here : (p : ℕ) (r : Rule) → getElem? g p ≡ some r → bitOf p (getD new (2 * spanAt i j) 0) ≡ 0 → FirstAbsent b i j r
   first-here p (Lexical A′ w) e z = tt
   first-here p (Spine A′ a [] D after) e z = elim (ℕ-discrete D A) [
     | yes q ↦ absurd (classes .firstDependents A A16 p _ e (noted .firsts p z .1) q)
@@ -275,7 +278,7 @@ module _ (g : List Rule) (n A i j : ℕ) (A16 : A < 16) (ij : i < j) (jn : j ≤
     | no d ↦ bares-apart B d ∙ old .firsts p _ i j e ij jn (noted .firsts p z .0)
   ]
 
-  second-here : (p : ℕ) (r : Rule) → getElem? g p ≡ some r → bitOf p (getD new (2 * spanAt n i j + 1) 0) ≡ 0 → SecondAbsent b i j r
+  second-here : (p : ℕ) (r : Rule) → getElem? g p ≡ some r → bitOf p (getD new (2 * spanAt i j + 1) 0) ≡ 0 → SecondAbsent b i j r
   second-here p (Lexical A′ w) e z = tt
   second-here p (Spine A′ a [] D []) e z = tt
   second-here p (Spine A′ a [] D (B ∷ after)) e z = elim (ℕ-discrete B A) [
@@ -291,23 +294,23 @@ module _ (g : List Rule) (n A i j : ℕ) (A16 : A < 16) (ij : i < j) (jn : j ≤
   sorted-more =
       record {
         long = rw (noted .sameLength) (old .long);
-        firsts = λ p r x y e l m z. elim (ℕ-discrete (spanAt n i j) (spanAt n x y)) [
+        firsts = λ p r x y e l m z. elim (ℕ-discrete (spanAt i j) (spanAt x y)) [
           | yes s ↦ let (u, v) = span-same n i j x y ij jn l m s in
               subst₂ (λ (x y : ℕ). FirstAbsent b x y r) u v
               (first-here p r e (subst (λ (k : ℕ). bitOf p (getD new (2 * k) 0) ≡ 0) (sym s) z))
           | no d ↦ first-kept b c x y r (λ B. places-other B x y (apart x y d) grown) (λ B. bares-other B x y (apart x y d) grown)
-              (old .firsts p r x y e l m (rw (noted .elsewhere (2 * spanAt n x y) (omega arith) (omega arith)) at z))
+              (old .firsts p r x y e l m (rw (noted .elsewhere (2 * spanAt x y) (omega arith) (omega arith)) at z))
         ];
-        seconds = λ p r x y e l m z. elim (ℕ-discrete (spanAt n i j) (spanAt n x y)) [
+        seconds = λ p r x y e l m z. elim (ℕ-discrete (spanAt i j) (spanAt x y)) [
           | yes s ↦ let (u, v) = span-same n i j x y ij jn l m s in
               subst₂ (λ (x y : ℕ). SecondAbsent b x y r) u v
               (second-here p r e (subst (λ (k : ℕ). bitOf p (getD new (2 * k + 1) 0) ≡ 0) (sym s) z))
           | no d ↦ second-kept b c x y r (λ B. places-other B x y (apart x y d) grown) (λ B. bares-other B x y (apart x y d) grown)
-              (old .seconds p r x y e l m (rw (noted .elsewhere (2 * spanAt n x y + 1) (omega arith) (omega arith)) at z))
+              (old .seconds p r x y e l m (rw (noted .elsewhere (2 * spanAt x y + 1) (omega arith) (omega arith)) at z))
         ];
       }
     where
-      apart : {B : ℕ} (x y : ℕ) → (spanAt n i j ≡ spanAt n x y → ⊥) → IsCell A i j B x y → ⊥
+      apart : {B : ℕ} (x y : ℕ) → (spanAt i j ≡ spanAt x y → ⊥) → IsCell A i j B x y → ⊥
       apart x y d (a, u, v) = d (rw (u, v))
 
 -- Is there a place from base on and below m where f is s?

@@ -54,7 +54,7 @@ module _ (g : List Rule) (n A i j set own : ℕ) (sets words : List ℕ) {P : �
       → byRule b A i k j p r ≡ []
   split-none k p r ik kj e apart = elim (and-zero p own set apart) [
     | inl z ↦ not-own b A i k j p r (owns .has p r e z)
-    | inr z ↦ elim (and-zero p (getD sets (2 * spanAt n i k) 0) (getD sets (2 * spanAt n k j + 1) 0)
+    | inr z ↦ elim (and-zero p (getD sets (2 * spanAt i k) 0) (getD sets (2 * spanAt k j + 1) 0)
         (spans .ofSplits (omega arith) p k ik kj z)) [
           | inl y ↦ absent-first b A i k j p r
               (first-kept b c i k r (λ B. places-other B i k (λ h. left B h) grown) (λ B. bares-other B i k (λ h. left B h) grown)
@@ -110,8 +110,8 @@ fold-idle f (suc m) c h = rw (fold-idle f m c (λ l k. h l (omega arith))) (h m 
 
 -- In a span: with an empty set no nonterminal adds anything; one whose set shares no production with the span's adds nothing; and the
 -- cell of the next nonterminal is still without records.
-module _ {g : List Rule} {n N count : ℕ} {chart marks index sets by words : List ℕ} {i j set : ℕ} (room : ℕ)
-    (b : Between g n N room chart marks index sets count) (classes : Classified g by) (spans : SpanSet g n sets words i j set)
+module _ {g : List Rule} {n N count : ℕ} {chart marks index covers sets by words : List ℕ} {i j set : ℕ} (room : ℕ)
+    (b : Between g n N room chart marks index covers sets count) (classes : Classified g by) (spans : SpanSet g n sets words i j set)
     (ij : i < j) (jn : j ≤ n) where
   pub idle-span : set ≡ 0
       → foldUp (fillCell room g (wordIs (take n words)) (j - i) i) N (some (chartIn chart count)) ≡ some (chartIn chart count)
@@ -147,8 +147,8 @@ drop-later x y m k e l =
 
 -- Nothing was filled yet.
 pub filled-none : {g : List Rule} {n N room count : ℕ} {Other : ℕ → ℕ → ℕ → Type 0} {s : Option (List Record)}
-    {chart marks index sets : List ℕ} → Between g n N room chart marks index sets count → s ≡ some (chartIn chart count)
-    → Filled g n N room Other s chart count chart marks index sets count
+    {chart marks index covers sets : List ℕ} → Between g n N room chart marks index covers sets count → s ≡ some (chartIn chart count)
+    → Filled g n N room Other s chart count chart marks index covers sets count
 filled-none {room = room} {count} {chart = chart} b e =
     record {
       sameRoom = refl;
@@ -179,14 +179,14 @@ module _ (room : ℕ) (g : List Rule) (at : ℕ → ℕ → Bool) where
   pub length-stays : (N n len : ℕ) → closeLength room g at N n len none ≡ none
   length-stays N n len = fold-none (closeSpan room g at N (suc len)) none 0 (n - len) (span-stays N (suc len)) refl zero-le
 
-module _ {g : List Rule} {n N room count now : ℕ} {Other : ℕ → ℕ → ℕ → Type 0} {old mid marks index sets : List ℕ}
+module _ {g : List Rule} {n N room count now : ℕ} {Other : ℕ → ℕ → ℕ → Type 0} {old mid marks index covers sets : List ℕ}
     (f : ℕ → Option (List Record) → Option (List Record)) (m : ℕ) (s : Option (List Record))
-    (sofar : Filled g n N room Other (foldUp f m s) old count mid marks index sets now) (fits : now ≤ room) where
+    (sofar : Filled g n N room Other (foldUp f m s) old count mid marks index covers sets now) (fits : now ≤ room) where
   -- One turn more.
-  pub fold-then : {after : ℕ} {Other′ : ℕ → ℕ → ℕ → Type 0} {new marks′ index′ sets′ : List ℕ} → Grows f
-      → Filled g n N room Other′ (f m (some (chartIn mid now))) mid now new marks′ index′ sets′ after
+  pub fold-then : {after : ℕ} {Other′ : ℕ → ℕ → ℕ → Type 0} {new marks′ index′ covers′ sets′ : List ℕ} → Grows f
+      → Filled g n N room Other′ (f m (some (chartIn mid now))) mid now new marks′ index′ covers′ sets′ after
       → ((A i j : ℕ) → Other A i j → Other′ A i j)
-      → Filled g n N room Other (foldUp f (m + 1) s) old count new marks′ index′ sets′ after
+      → Filled g n N room Other (foldUp f (m + 1) s) old count new marks′ index′ covers′ sets′ after
   fold-then {after} {new = new} grows turn narrower =
       record {
         sameRoom = turn .sameRoom ∙ sofar .sameRoom;
@@ -210,7 +210,7 @@ module _ {g : List Rule} {n N room count now : ℕ} {Other : ℕ → ℕ → ℕ
 
   -- A turn that changes nothing.
   pub fold-skip : f m (some (chartIn mid now)) ≡ some (chartIn mid now)
-      → Filled g n N room Other (foldUp f (m + 1) s) old count mid marks index sets now
+      → Filled g n N room Other (foldUp f (m + 1) s) old count mid marks index covers sets now
   fold-skip idle =
       record {
         sameRoom = sofar .sameRoom;
@@ -225,26 +225,27 @@ module _ {g : List Rule} {n N room count now : ℕ} {Other : ℕ → ℕ → ℕ
 
 -- An item did not fit in some turn: so none does at the end.
 pub fold-over : {g : List Rule} {n N room count after : ℕ} {Other : ℕ → ℕ → ℕ → Type 0}
-    {old new marks index sets : List ℕ} (f : ℕ → Option (List Record) → Option (List Record)) (m k : ℕ) (s : Option (List Record))
+    {old new marks index covers sets : List ℕ} (f : ℕ → Option (List Record) → Option (List Record)) (m k : ℕ) (s : Option (List Record))
     → ((l : ℕ) → f l none ≡ none)
-    → Filled g n N room Other (foldUp f m s) old count new marks index sets after → room < after → m ≤ k
-    → Filled g n N room Other (foldUp f k s) old count new marks index sets after
+    → Filled g n N room Other (foldUp f m s) old count new marks index covers sets after → room < after → m ≤ k
+    → Filled g n N room Other (foldUp f k s) old count new marks index covers sets after
 fold-over {room = room} {after = after} {new = new} f m k s stays last over l =
     let gone = state-over room after new (last .model) over in
     over-filled (last .sameRoom) (last .model ∙ (gone ∙ sym (fold-none f s m k stays gone l))) over
 
-pub fold-at : {g : List Rule} {n N room count after : ℕ} {Other : ℕ → ℕ → ℕ → Type 0} {old new marks index sets : List ℕ}
+pub fold-at : {g : List Rule} {n N room count after : ℕ} {Other : ℕ → ℕ → ℕ → Type 0} {old new marks index covers sets : List ℕ}
     (f : ℕ → Option (List Record) → Option (List Record)) (m k : ℕ) (s : Option (List Record)) → m ≡ k
-    → Filled g n N room Other (foldUp f m s) old count new marks index sets after
-    → Filled g n N room Other (foldUp f k s) old count new marks index sets after
+    → Filled g n N room Other (foldUp f m s) old count new marks index covers sets after
+    → Filled g n N room Other (foldUp f k s) old count new marks index covers sets after
 fold-at f m k s e h = rw e at h
 
 -- Where branches have met, what they left is known by equations.
 pub filled-eq : {g : List Rule} {n N room count after after′ : ℕ} {Other : ℕ → ℕ → ℕ → Type 0} {s : Option (List Record)}
-    {old new marks index sets new′ marks′ index′ sets′ : List ℕ} → new′ ≡ new → marks′ ≡ marks → index′ ≡ index → sets′ ≡ sets
-    → after′ ≡ after → Filled g n N room Other s old count new marks index sets after
-    → Filled g n N room Other s old count new′ marks′ index′ sets′ after′
-filled-eq p q r t u h = rw (p, q, r, t, u) h
+    {old new marks index covers sets new′ marks′ index′ covers′ sets′ : List ℕ} → new′ ≡ new → marks′ ≡ marks → index′ ≡ index
+    → covers′ ≡ covers → sets′ ≡ sets
+    → after′ ≡ after → Filled g n N room Other s old count new marks index covers sets after
+    → Filled g n N room Other s old count new′ marks′ index′ covers′ sets′ after′
+filled-eq p q r v t u h = rw (p, q, r, v, t, u) h
 
 -- The next span of a length, and the spans of the next length, are still without records.
 pub fresh-span : {b : List Record} (c : List Record) (room : ℕ) (g : List Rule) (at : ℕ → ℕ → Bool) (N len i A : ℕ)
@@ -260,17 +261,17 @@ pub fresh-length : {b : List Record} (room : ℕ) (g : List Rule) (at : ℕ → 
 fresh-length room g at N n len A i q = places-other A i (i + (len + 1)) (λ h. omega arith) (all-grown room g at N n len q)
 
 -- The turn for the span from i of a length, in the model's terms.
-pub span-turn : {g : List Rule} {n N room now after : ℕ} {Other : ℕ → ℕ → ℕ → Type 0} {mid new marks index sets : List ℕ}
+pub span-turn : {g : List Rule} {n N room now after : ℕ} {Other : ℕ → ℕ → ℕ → Type 0} {mid new marks index covers sets : List ℕ}
     (at : ℕ → ℕ → Bool) (len i : ℕ)
-    → Filled g n N room Other (closeSpan room g at N (i + len + 1 - i) i (some (chartIn mid now))) mid now new marks index sets after
-    → Filled g n N room Other (closeSpan room g at N (suc len) i (some (chartIn mid now))) mid now new marks index sets after
-span-turn {g} {n} {N} {room} {now} {after} {Other} {mid} {new} {marks} {index} {sets} at len i h =
+    → Filled g n N room Other (closeSpan room g at N (i + len + 1 - i) i (some (chartIn mid now))) mid now new marks index covers sets after
+    → Filled g n N room Other (closeSpan room g at N (suc len) i (some (chartIn mid now))) mid now new marks index covers sets after
+span-turn {g} {n} {N} {room} {now} {after} {Other} {mid} {new} {marks} {index} {covers} {sets} at len i h =
     let e : i + len + 1 - i ≡ suc len = omega arith in
-    subst (λ (k : ℕ). Filled g n N room Other (closeSpan room g at N k i (some (chartIn mid now))) mid now new marks index sets after) e h
+    subst (λ (k : ℕ). Filled g n N room Other (closeSpan room g at N k i (some (chartIn mid now))) mid now new marks index covers sets after) e h
 
 -- All lengths are closed.
 module _ {g : List Rule} {n N room count after : ℕ} {Other : ℕ → ℕ → ℕ → Type 0} {s : Option (List Record)}
-    {old new marks index sets : List ℕ} (filled : Filled g n N room Other s old count new marks index sets after) where
+    {old new marks index covers sets : List ℕ} (filled : Filled g n N room Other s old count new marks index covers sets after) where
   past : s ≡ none → Dec (after ≤ room) → room < after
   past e (yes l) = absurd (none-some (sym e ∙ state-some room after new (filled .model) l))
   past e (no d) = omega arith

@@ -283,18 +283,18 @@ other-word w word rule e d t = elim (ℕ-discrete (rule % 256) 0) [
 -- The splits of i to j below `to` that were looked at.
 abbrev pub MeetsTo : ℕ → List ℕ → ℕ → ℕ → ℕ → ℕ → Type 0
 MeetsTo n sets i j to set = (p k : ℕ) → i < k → k < to → bitOf p set ≡ 0
-    → bitOf p (bitAnd (getD sets (2 * spanAt n i k) 0) (getD sets (2 * spanAt n k j + 1) 0)) ≡ 0
+    → bitOf p (bitAnd (getD sets (2 * spanAt i k) 0) (getD sets (2 * spanAt k j + 1) 0)) ≡ 0
 
 pub meets-none : (n : ℕ) (sets : List ℕ) (i j set : ℕ) → MeetsTo n sets i j (i + 1) set
 meets-none n sets i j set p k a b = absurd (omega arith)
 
-pub meets-more : (n : ℕ) (sets : List ℕ) (i j to set first second : ℕ) → MeetsTo n sets i j to set → first ≡ spanAt n i to
-    → second ≡ spanAt n to j
+pub meets-more : (n : ℕ) (sets : List ℕ) (i j to set first second : ℕ) → MeetsTo n sets i j to set → first ≡ spanAt i to
+    → second ≡ spanAt to j
     → MeetsTo n sets i j (to + 1) (bitOr set (bitAnd (getD sets (2 * first) 0) (getD sets (2 * second + 1) 0)))
 meets-more n sets i j to set first second m f s p k a b z = elim (ℕ-discrete k to) [
   | yes e ↦
-      let x : first ≡ spanAt n i k = f ∙ ap (spanAt n i) (sym e) in
-      let y : second ≡ spanAt n k j = s ∙ ap (λ (l : ℕ). spanAt n l j) (sym e) in
+      let x : first ≡ spanAt i k = f ∙ ap (spanAt i) (sym e) in
+      let y : second ≡ spanAt k j = s ∙ ap (λ (l : ℕ). spanAt l j) (sym e) in
       rw (← x, ← y) (or-bits p set both z .1)
   | no d ↦ m p k a (omega arith) (or-bits p set both z .0)
 ]
@@ -323,11 +323,11 @@ sets-bare by A bare e d = (both (32 + A) (16 + A) e, both (64 + A) (48 + A) d)
     both x y e p h = let (u, v) = or-bits p (getD by x 0) (getD by y 0) (sym (ap (bitOf p) e) ∙ h) in (u, λ b. v)
 
 -- They go into the sets of the span, one after the other.
-noted-there : (n : ℕ) (by : List ℕ) (A i j bare : ℕ) (old : List ℕ) (first second : ℕ) → 2 * spanAt n i j + 1 < length old
+noted-there : (n : ℕ) (by : List ℕ) (A i j bare : ℕ) (old : List ℕ) (first second : ℕ) → 2 * spanAt i j + 1 < length old
     → CellSets by A bare first second
-    → Noted n by A i j bare old (orInto (orInto old (2 * spanAt n i j) first) (2 * spanAt n i j + 1) second)
+    → Noted n by A i j bare old (orInto (orInto old (2 * spanAt i j) first) (2 * spanAt i j + 1) second)
 noted-there n by A i j bare old first second h (f, g) =
-    let at = 2 * spanAt n i j in
+    let at = 2 * spanAt i j in
     let half = orInto old at first in
     let x : at < length old = omega arith in
     let y : at + 1 < length half = simp length-set h in
@@ -343,10 +343,10 @@ noted-there n by A i j bare old first second h (f, g) =
     }
 
 pub noted : (n : ℕ) (by : List ℕ) (A i j bare : ℕ) (old : List ℕ) (at first second : ℕ) {a k l : ℕ} → a ≡ A → k ≡ i → l ≡ j
-    → at ≡ spanAt n k l → 2 * at + 1 < length old → CellSets by a bare first second
+    → at ≡ spanAt k l → 2 * at + 1 < length old → CellSets by a bare first second
     → Noted n by A i j bare old (orInto (orInto old (2 * at) first) (2 * at + 1) second)
 noted n by A i j bare old at first second x y z e h c =
-    let place : at ≡ spanAt n i j = e ∙ ap₂ (spanAt n) y z in
+    let place : at ≡ spanAt i j = e ∙ ap₂ spanAt y z in
     subst (λ (s : ℕ). Noted n by A i j bare old (orInto (orInto old (2 * s) first) (2 * s + 1) second)) (sym place)
     (noted-there n by A i j bare old first second (subst (λ (s : ℕ). 2 * s + 1 < length old) place h)
     (subst (λ (b : ℕ). CellSets by b bare first second) x c))

@@ -11,6 +11,7 @@ use Rattle.grammar.specs.Chart.{Record, IsChart}
 use Rattle.layout.specs.Bytes.{counted}
 use Rattle.layout.specs.Card.{cardNumber, grammarOf, production}
 use Rattle.layout.specs.Records.{chartBytes, capacity}
+use Rattle.records.specs.Index.{spans}
 use Rattle.chart.specs.declared.Built.{Built}
 use Rattle.chart.specs.declared.Built.the-variants.{Chart, TooMany}
 use Rattle.chart.specs.Tables.{grammarIn, rulesFrom}
@@ -26,13 +27,15 @@ pub record RoomLent (room : ℕ) (chart : List ℕ) : Type 0 where
   pub small : room ≤ 65535
   pub there : 16 * room ≤ length chart
 
-pub record TablesLent (n N : ℕ) (marks index sets : List ℕ) : Type 0 where
+pub record TablesLent (n N : ℕ) (marks index sets covers : List ℕ) : Type 0 where
   pub marksZero : marks ≡ replicate (length marks) 0
   pub indexZero : index ≡ replicate (length index) 0
   pub setsZero : sets ≡ replicate (length sets) 0
+  pub coversZero : covers ≡ replicate (length covers) 0
   pub marksThere : N * n * n < length marks
-  pub indexThere : 3 * (n * n * N) ≤ length index
-  pub setsThere : 2 * (n * n) ≤ length sets
+  pub indexThere : 3 * (spans n * N) ≤ length index
+  pub setsThere : 2 * spans n ≤ length sets
+  pub coversThere : spans n * N ≤ length covers
 
 -- The card's first `many` productions, packed, and word productions 0 → 0 after them.
 pub record DecodedAll (card : List ℕ) (many : ℕ) (rules : List ℕ) : Type 0 where

@@ -15,6 +15,7 @@ use Rattle.records.specs.declared.index.Range.{Range}
 use Rattle.records.specs.Bits.{bitOf}
 use Rattle.records.specs.Room.{chartIn, stateOf, FootFits, FeetFit, markOf}
 use Rattle.records.specs.Index.{spanAt, Indexed}
+use Rattle.records.specs.Cover.{Covered}
 use Rattle.chart.specs.Tables.{Sorted, leftIs, OwnSet}
 
 -- For each nonterminal A five sets of productions, at A, 16 + A, .., 64 + A: those of A; those whose first element is a side A, or a
@@ -73,7 +74,7 @@ WordRule w (Spine A a before D after) = ⊥
 
 abbrev pub Meets : ℕ → List ℕ → ℕ → ℕ → ℕ → Type 0
 Meets n sets i j set = (p k : ℕ) → i < k → k < j → bitOf p set ≡ 0
-    → bitOf p (bitAnd (getD sets (2 * spanAt n i k) 0) (getD sets (2 * spanAt n k j + 1) 0)) ≡ 0
+    → bitOf p (bitAnd (getD sets (2 * spanAt i k) 0) (getD sets (2 * spanAt k j + 1) 0)) ≡ 0
 
 -- The set of a span has every production that can add to it.
 pub record SpanSet (g : List Rule) (n : ℕ) (sets words : List ℕ) (i j set : ℕ) : Type 0 where
@@ -83,17 +84,17 @@ pub record SpanSet (g : List Rule) (n : ℕ) (sets words : List ℕ) (i j set : 
 -- A cell's records are noted in the sets of its span: a bit is 0 afterwards only if it was, and if the cell's own sets lack it.
 pub record Noted (n : ℕ) (by : List ℕ) (A i j bare : ℕ) (old new : List ℕ) : Type 0 where
   pub sameLength : length new ≡ length old
-  pub elsewhere : (s : ℕ) → (s ≡ 2 * spanAt n i j → ⊥) → (s ≡ 2 * spanAt n i j + 1 → ⊥) → getD new s 0 ≡ getD old s 0
-  pub firsts : (p : ℕ) → bitOf p (getD new (2 * spanAt n i j) 0) ≡ 0
-      → (bitOf p (getD old (2 * spanAt n i j) 0) ≡ 0) × (bitOf p (getD by (32 + A) 0) ≡ 0)
+  pub elsewhere : (s : ℕ) → (s ≡ 2 * spanAt i j → ⊥) → (s ≡ 2 * spanAt i j + 1 → ⊥) → getD new s 0 ≡ getD old s 0
+  pub firsts : (p : ℕ) → bitOf p (getD new (2 * spanAt i j) 0) ≡ 0
+      → (bitOf p (getD old (2 * spanAt i j) 0) ≡ 0) × (bitOf p (getD by (32 + A) 0) ≡ 0)
       × ((bare ≡ 0 → ⊥) → bitOf p (getD by (16 + A) 0) ≡ 0)
-  pub seconds : (p : ℕ) → bitOf p (getD new (2 * spanAt n i j + 1) 0) ≡ 0
-      → (bitOf p (getD old (2 * spanAt n i j + 1) 0) ≡ 0) × (bitOf p (getD by (64 + A) 0) ≡ 0)
+  pub seconds : (p : ℕ) → bitOf p (getD new (2 * spanAt i j + 1) 0) ≡ 0
+      → (bitOf p (getD old (2 * spanAt i j + 1) 0) ≡ 0) × (bitOf p (getD by (64 + A) 0) ≡ 0)
       × ((bare ≡ 0 → ⊥) → bitOf p (getD by (48 + A) 0) ≡ 0)
 
 -- Between two cells: the room and the tables agree, and no foot is marked. No number in the index is past the count, so that none
 -- comes to stand for records when the count grows.
-pub record Between (g : List Rule) (n N room : ℕ) (chart marks index sets : List ℕ) (count : ℕ) : Type 0 where
+pub record Between (g : List Rule) (n N room : ℕ) (chart marks index covers sets : List ℕ) (count : ℕ) : Type 0 where
   pub wordsFit : n ≤ 24
   pub symbolsFit : N ≤ 16
   pub roomSmall : room ≤ 65535
@@ -106,15 +107,16 @@ pub record Between (g : List Rule) (n N room : ℕ) (chart marks index sets : Li
   pub indexed : Indexed n N (chartIn chart count) index
   pub within : (k : ℕ) → getD index k 0 ≤ count
   pub sorted : Sorted g n (chartIn chart count) sets
+  pub covered : Covered n N (chartIn chart count) covers
 
 -- Cells were filled: the room holds what the model has, the bytes past it are as they were, and the tables agree again. `Other` names
 -- the cells that have kept their records.
 pub record Filled (g : List Rule) (n N room : ℕ) (Other : ℕ → ℕ → ℕ → Type 0) (s : Option (List Record)) (old : List ℕ) (count : ℕ)
-    (new marks index sets : List ℕ) (after : ℕ) : Type 0 where
+    (new marks index covers sets : List ℕ) (after : ℕ) : Type 0 where
   pub sameRoom : length new ≡ length old
   pub model : stateOf room new after ≡ s
   pub rest : after ≤ room → drop (16 * after) new ≡ drop (16 * after) old
-  pub ready : after ≤ room → Between g n N room new marks index sets after
+  pub ready : after ≤ room → Between g n N room new marks index covers sets after
   pub others : after ≤ room → (A i j : ℕ) → Other A i j → places (chartIn new after) A i j ≡ places (chartIn old count) A i j
 
 -- Cells other than one, than those of one span, and than those of one length.

@@ -13,7 +13,7 @@ use Rattle.layout.specs.Card.{ruleOf}
 use Rattle.chart_model.specs.Build.{places, barePlaces, byRuleOver}
 use Rattle.records.specs.Bits.{bitOf, holdsBit}
 use Rattle.records.specs.Room.{footThere, markSlot}
-use Rattle.records.specs.Index.{spanAt}
+use Rattle.records.specs.Index.{spans, spanAt}
 use Rattle.records.specs.declared.index.Range.{Range}
 use Rattle.steps.specs.Fits.{RuleFits}
 
@@ -31,11 +31,11 @@ SecondAbsent b k j (Spine A a (B ∷ before) D after) = places b D k j ≡ []
 
 -- For each span two sets of productions: those whose first element is there, and those whose second is.
 pub record Sorted (g : List Rule) (n : ℕ) (b : List Record) (sets : List ℕ) : Type 0 where
-  pub long : 2 * (n * n) ≤ length sets
+  pub long : 2 * spans n ≤ length sets
   pub firsts : (p : ℕ) (r : Rule) (i k : ℕ) → getElem? g p ≡ some r → i < k → k ≤ n
-      → bitOf p (getD sets (2 * spanAt n i k) 0) ≡ 0 → FirstAbsent b i k r
+      → bitOf p (getD sets (2 * spanAt i k) 0) ≡ 0 → FirstAbsent b i k r
   pub seconds : (p : ℕ) (r : Rule) (k j : ℕ) → getElem? g p ≡ some r → k < j → j ≤ n
-      → bitOf p (getD sets (2 * spanAt n k j + 1) 0) ≡ 0 → SecondAbsent b k j r
+      → bitOf p (getD sets (2 * spanAt k j + 1) 0) ≡ 0 → SecondAbsent b k j r
 
 -- The left side of a rule; and a set that has every production of A, and no bit past the last production.
 abbrev pub leftIs : ℕ → Rule → Type 0

@@ -10,6 +10,7 @@ ghost use lib.ListN.{length, getD, take};
 ghost use Rattle.grammar.specs.Input.{wordIs};
 ghost use Rattle.chart_model.specs.Build.{places, fillCell, closeSpan, closeLength, build};
 ghost use Rattle.records.specs.Room.{chartIn};
+ghost use Rattle.records.specs.Index.{spans};
 ghost use Rattle.chart.specs.Tables.{CellSet, grammarIn, RulesFit};
 ghost use Rattle.chart.specs.Fill.{Classified, Between, Filled, OtherCell, OtherSpan, OtherLength, SpanSet, Closed};
 
@@ -18,6 +19,7 @@ fn fill_cell(
     chart: &mut [u8],
     marks: &mut [u8],
     index: &mut [u16],
+    covers: &mut [u16],
     sets: &mut [u64],
     by: &[u64; 80],
     z: Sizes,
@@ -28,13 +30,14 @@ fn fill_cell(
     set: u64,
     count: usize,
 ) -> usize
-    requires { ⌜ Between (grammarIn (now rules) many) (z .words) (z .symbols) (z .room) (now chart) (now marks) (now index) (now sets) count × (z .base ≡ count) × RulesFit (z .symbols) (now rules) × Classified (grammarIn (now rules) many) (now by) × (c .left < z .symbols) × (c .from < c .to) × (c .to ≤ z .words) × (many ≤ 64) × (places (chartIn (now chart) count) (c .left) (c .from) (c .to) ≡ []) × CellSet (grammarIn (now rules) many) (wordIs (take (z .words) (now words))) (chartIn (now chart) count) (c .left) (c .from) (c .to - c .from) set × (z .words ≤ length (now words)) ⌝ }
-    ensures { λ r. ⌜ Filled (grammarIn (now (rules .entry)) many) (z .words) (z .symbols) (z .room) (OtherCell (c .left) (c .from) (c .to)) (fillCell (z .room) (grammarIn (now (rules .entry)) many) (wordIs (take (z .words) (now (words .entry)))) (c .to - c .from) (c .from) (c .left) (some (chartIn (now (chart .entry)) count))) (now (chart .entry)) count (now (chart .exit)) (now (marks .exit)) (now (index .exit)) (now (sets .exit)) r ⌝ }
+    requires { ⌜ Between (grammarIn (now rules) many) (z .words) (z .symbols) (z .room) (now chart) (now marks) (now index) (now covers) (now sets) count × (z .base ≡ count) × RulesFit (z .symbols) (now rules) × Classified (grammarIn (now rules) many) (now by) × (c .left < z .symbols) × (c .from < c .to) × (c .to ≤ z .words) × (many ≤ 64) × (places (chartIn (now chart) count) (c .left) (c .from) (c .to) ≡ []) × CellSet (grammarIn (now rules) many) (wordIs (take (z .words) (now words))) (chartIn (now chart) count) (c .left) (c .from) (c .to - c .from) set × (z .words ≤ length (now words)) ⌝ }
+    ensures { λ r. ⌜ Filled (grammarIn (now (rules .entry)) many) (z .words) (z .symbols) (z .room) (OtherCell (c .left) (c .from) (c .to)) (fillCell (z .room) (grammarIn (now (rules .entry)) many) (wordIs (take (z .words) (now (words .entry)))) (c .to - c .from) (c .from) (c .left) (some (chartIn (now (chart .entry)) count))) (now (chart .entry)) count (now (chart .exit)) (now (marks .exit)) (now (index .exit)) (now (covers .exit)) (now (sets .exit)) r ⌝ }
 {
     let now = crate::cell::fill_items(
         chart,
         marks,
         index,
+        covers,
         sets,
         z,
         c,
@@ -67,7 +70,7 @@ fn span_set(
     many: usize,
     words: &[u8; 24],
 ) -> u64
-    requires { ⌜ (n ≤ 24) × (i < j) × (j ≤ n) × (2 * (n * n) ≤ length (now sets)) × (many ≤ 64) ⌝ }
+    requires { ⌜ (n ≤ 24) × (i < j) × (j ≤ n) × (2 * spans n ≤ length (now sets)) × (many ≤ 64) ⌝ }
     ensures { λ r. ⌜ SpanSet (grammarIn (now (rules .entry)) many) n (now (sets .entry)) (now (words .entry)) i j r ⌝ }
 {
     if j - i == 1 {
@@ -82,6 +85,7 @@ fn close_span(
     chart: &mut [u8],
     marks: &mut [u8],
     index: &mut [u16],
+    covers: &mut [u16],
     sets: &mut [u64],
     by: &[u64; 80],
     n: usize,
@@ -94,8 +98,8 @@ fn close_span(
     words: &[u8; 24],
     count: usize,
 ) -> usize
-    requires { ⌜ Between (grammarIn (now rules) many) n symbols room (now chart) (now marks) (now index) (now sets) count × RulesFit symbols (now rules) × Classified (grammarIn (now rules) many) (now by) × (i < j) × (j ≤ n) × (many ≤ 64) × ((A : ℕ) → places (chartIn (now chart) count) A i j ≡ []) × (n ≤ length (now words)) ⌝ }
-    ensures { λ r. ⌜ Filled (grammarIn (now (rules .entry)) many) n symbols room (OtherSpan i j) (closeSpan room (grammarIn (now (rules .entry)) many) (wordIs (take n (now (words .entry)))) symbols (j - i) i (some (chartIn (now (chart .entry)) count))) (now (chart .entry)) count (now (chart .exit)) (now (marks .exit)) (now (index .exit)) (now (sets .exit)) r ⌝ }
+    requires { ⌜ Between (grammarIn (now rules) many) n symbols room (now chart) (now marks) (now index) (now covers) (now sets) count × RulesFit symbols (now rules) × Classified (grammarIn (now rules) many) (now by) × (i < j) × (j ≤ n) × (many ≤ 64) × ((A : ℕ) → places (chartIn (now chart) count) A i j ≡ []) × (n ≤ length (now words)) ⌝ }
+    ensures { λ r. ⌜ Filled (grammarIn (now (rules .entry)) many) n symbols room (OtherSpan i j) (closeSpan room (grammarIn (now (rules .entry)) many) (wordIs (take n (now (words .entry)))) symbols (j - i) i (some (chartIn (now (chart .entry)) count))) (now (chart .entry)) count (now (chart .exit)) (now (marks .exit)) (now (index .exit)) (now (covers .exit)) (now (sets .exit)) r ⌝ }
 {
     let set = span_set(sets, n, i, j, rules, many, words);
     if set == 0 {
@@ -121,6 +125,7 @@ fn close_span(
                 chart,
                 marks,
                 index,
+                covers,
                 sets,
                 by,
                 z,
@@ -145,6 +150,7 @@ fn close_length(
     chart: &mut [u8],
     marks: &mut [u8],
     index: &mut [u16],
+    covers: &mut [u16],
     sets: &mut [u64],
     by: &[u64; 80],
     n: usize,
@@ -156,8 +162,8 @@ fn close_length(
     words: &[u8; 24],
     count: usize,
 ) -> usize
-    requires { ⌜ Between (grammarIn (now rules) many) n symbols room (now chart) (now marks) (now index) (now sets) count × RulesFit symbols (now rules) × Classified (grammarIn (now rules) many) (now by) × (len < n) × (many ≤ 64) × ((A i : ℕ) → places (chartIn (now chart) count) A i (i + (len + 1)) ≡ []) × (n ≤ length (now words)) ⌝ }
-    ensures { λ r. ⌜ Filled (grammarIn (now (rules .entry)) many) n symbols room (OtherLength (len + 1)) (closeLength room (grammarIn (now (rules .entry)) many) (wordIs (take n (now (words .entry)))) symbols n len (some (chartIn (now (chart .entry)) count))) (now (chart .entry)) count (now (chart .exit)) (now (marks .exit)) (now (index .exit)) (now (sets .exit)) r ⌝ }
+    requires { ⌜ Between (grammarIn (now rules) many) n symbols room (now chart) (now marks) (now index) (now covers) (now sets) count × RulesFit symbols (now rules) × Classified (grammarIn (now rules) many) (now by) × (len < n) × (many ≤ 64) × ((A i : ℕ) → places (chartIn (now chart) count) A i (i + (len + 1)) ≡ []) × (n ≤ length (now words)) ⌝ }
+    ensures { λ r. ⌜ Filled (grammarIn (now (rules .entry)) many) n symbols room (OtherLength (len + 1)) (closeLength room (grammarIn (now (rules .entry)) many) (wordIs (take n (now (words .entry)))) symbols n len (some (chartIn (now (chart .entry)) count))) (now (chart .entry)) count (now (chart .exit)) (now (marks .exit)) (now (index .exit)) (now (covers .exit)) (now (sets .exit)) r ⌝ }
 {
     let mut i = 0;
     let mut now = count;
@@ -166,6 +172,7 @@ fn close_length(
             chart,
             marks,
             index,
+            covers,
             sets,
             by,
             n,
@@ -191,6 +198,7 @@ pub fn close_all(
     chart: &mut [u8],
     marks: &mut [u8],
     index: &mut [u16],
+    covers: &mut [u16],
     sets: &mut [u64],
     by: &[u64; 80],
     n: usize,
@@ -200,7 +208,7 @@ pub fn close_all(
     many: usize,
     words: &[u8; 24],
 ) -> usize
-    requires { ⌜ Between (grammarIn (now rules) many) n symbols room (now chart) (now marks) (now index) (now sets) 0 × RulesFit symbols (now rules) × Classified (grammarIn (now rules) many) (now by) × (many ≤ 64) × (n ≤ length (now words)) ⌝ }
+    requires { ⌜ Between (grammarIn (now rules) many) n symbols room (now chart) (now marks) (now index) (now covers) (now sets) 0 × RulesFit symbols (now rules) × Classified (grammarIn (now rules) many) (now by) × (many ≤ 64) × (n ≤ length (now words)) ⌝ }
     ensures { λ r. ⌜ Closed room (build room (grammarIn (now (rules .entry)) many) (wordIs (take n (now (words .entry)))) symbols n) (now (chart .entry)) (now (chart .exit)) r ⌝ }
 {
     let mut len = 0;
@@ -210,6 +218,7 @@ pub fn close_all(
             chart,
             marks,
             index,
+            covers,
             sets,
             by,
             n,

@@ -14,7 +14,8 @@ ghost use Rattle.grammar.specs.Input.{wordIs};
 ghost use Rattle.card.specs.Productions.{ruleFrom};
 ghost use Rattle.chart_model.specs.Build.{byWord, acrossSplits, byRuleOver, candidates};
 ghost use Rattle.records.specs.Room.{chartIn, Working, Added};
-ghost use Rattle.records.specs.Index.{Indexed};
+ghost use Rattle.records.specs.Index.{Indexed, SpanFits};
+ghost use Rattle.records.specs.Cover.{Covering, Advanced};
 ghost use Rattle.chart.specs.Tables.{Sorted, CellSet, packedRule, grammarIn, RulesFit, thisWord, isWordOf, Finished};
 
 // What production p adds at a place with word w.
@@ -81,6 +82,7 @@ fn across_splits(
     chart: &mut [u8],
     marks: &mut [u8],
     index: &[u16],
+    covers: &mut [u16],
     sets: &[u64],
     z: Sizes,
     c: Cell,
@@ -89,8 +91,8 @@ fn across_splits(
     p: usize,
     count: usize,
 ) -> usize
-    requires { ⌜ Working (z .words) (z .symbols) (z .room) (c .left) (c .from) (c .to) (now chart) (now marks) count × (z .base ≤ count) × Indexed (z .words) (z .symbols) (chartIn (now chart) (z .base)) (now index) × RulesFit (z .symbols) (now rules) × (c .from < c .to) × (c .to ≤ z .words) × (many ≤ 64) × (p < many) × Sorted (grammarIn (now rules) many) (z .words) (chartIn (now chart) (z .base)) (now sets) ⌝ }
-    ensures { λ r. ⌜ Added (z .words) (z .symbols) (z .room) (c .left) (c .from) (c .to) (acrossSplits (chartIn (now (chart .entry)) (z .base)) (c .left) (c .from) (c .to) p (packedRule (getD (now (rules .entry)) p 0))) (now (chart .entry)) (now (marks .entry)) count (now (chart .exit)) (now (marks .exit)) r ⌝ }
+    requires { ⌜ Working (z .words) (z .symbols) (z .room) (c .left) (c .from) (c .to) (now chart) (now marks) count × (z .base ≤ count) × Indexed (z .words) (z .symbols) (chartIn (now chart) (z .base)) (now index) × RulesFit (z .symbols) (now rules) × (c .from < c .to) × (c .to ≤ z .words) × (many ≤ 64) × (p < many) × Sorted (grammarIn (now rules) many) (z .words) (chartIn (now chart) (z .base)) (now sets) × Covering (z .words) (z .symbols) (c .left) (c .from) (c .to) (chartIn (now chart) (z .base)) (chartIn (now chart) count) (now covers) × SpanFits (z .words) (z .symbols) (c .left) (c .from) (c .to) ⌝ }
+    ensures { λ r. ⌜ Advanced (z .words) (z .symbols) (z .room) (c .left) (c .from) (c .to) (z .base) (acrossSplits (chartIn (now (chart .entry)) (z .base)) (c .left) (c .from) (c .to) p (packedRule (getD (now (rules .entry)) p 0))) (now (chart .entry)) (now (marks .entry)) count (now (chart .exit)) (now (marks .exit)) (now (covers .exit)) r ⌝ }
 {
     let rule = crate::rules::rule_at(rules, p);
     let bit = 1u64 << p;
@@ -106,6 +108,7 @@ fn across_splits(
                 chart,
                 marks,
                 index,
+                covers,
                 z,
                 c,
                 k as u8,
@@ -127,6 +130,7 @@ fn by_rule(
     chart: &mut [u8],
     marks: &mut [u8],
     index: &[u16],
+    covers: &mut [u16],
     sets: &[u64],
     z: Sizes,
     c: Cell,
@@ -136,8 +140,8 @@ fn by_rule(
     p: usize,
     count: usize,
 ) -> usize
-    requires { ⌜ Working (z .words) (z .symbols) (z .room) (c .left) (c .from) (c .to) (now chart) (now marks) count × (z .base ≤ count) × Indexed (z .words) (z .symbols) (chartIn (now chart) (z .base)) (now index) × RulesFit (z .symbols) (now rules) × (c .from < c .to) × (c .to ≤ z .words) × (many ≤ 64) × (p < many) × Sorted (grammarIn (now rules) many) (z .words) (chartIn (now chart) (z .base)) (now sets) × (z .words ≤ length (now words)) ⌝ }
-    ensures { λ r. ⌜ Added (z .words) (z .symbols) (z .room) (c .left) (c .from) (c .to) (byRuleOver (wordIs (take (z .words) (now (words .entry)))) (chartIn (now (chart .entry)) (z .base)) (c .left) (c .from) (c .to - c .from) p (packedRule (getD (now (rules .entry)) p 0))) (now (chart .entry)) (now (marks .entry)) count (now (chart .exit)) (now (marks .exit)) r ⌝ }
+    requires { ⌜ Working (z .words) (z .symbols) (z .room) (c .left) (c .from) (c .to) (now chart) (now marks) count × (z .base ≤ count) × Indexed (z .words) (z .symbols) (chartIn (now chart) (z .base)) (now index) × RulesFit (z .symbols) (now rules) × (c .from < c .to) × (c .to ≤ z .words) × (many ≤ 64) × (p < many) × Sorted (grammarIn (now rules) many) (z .words) (chartIn (now chart) (z .base)) (now sets) × (z .words ≤ length (now words)) × Covering (z .words) (z .symbols) (c .left) (c .from) (c .to) (chartIn (now chart) (z .base)) (chartIn (now chart) count) (now covers) × SpanFits (z .words) (z .symbols) (c .left) (c .from) (c .to) ⌝ }
+    ensures { λ r. ⌜ Advanced (z .words) (z .symbols) (z .room) (c .left) (c .from) (c .to) (z .base) (byRuleOver (wordIs (take (z .words) (now (words .entry)))) (chartIn (now (chart .entry)) (z .base)) (c .left) (c .from) (c .to - c .from) p (packedRule (getD (now (rules .entry)) p 0))) (now (chart .entry)) (now (marks .entry)) count (now (chart .exit)) (now (marks .exit)) (now (covers .exit)) r ⌝ }
 {
     let from = wide(c.from);
     let to = wide(c.to);
@@ -146,7 +150,19 @@ fn by_rule(
         let w = words[from];
         return at_word(chart, marks, z, c, p, rule, w, count);
     }
-    across_splits(chart, marks, index, sets, z, c, rules, many, p, count)
+    across_splits(
+        chart,
+        marks,
+        index,
+        covers,
+        sets,
+        z,
+        c,
+        rules,
+        many,
+        p,
+        count,
+    )
 }
 
 // The candidates of the cell, production by production of a set that has all that can add to it.
@@ -154,6 +170,7 @@ pub fn fill_items(
     chart: &mut [u8],
     marks: &mut [u8],
     index: &[u16],
+    covers: &mut [u16],
     sets: &[u64],
     z: Sizes,
     c: Cell,
@@ -163,8 +180,8 @@ pub fn fill_items(
     set: u64,
     count: usize,
 ) -> usize
-    requires { ⌜ Working (z .words) (z .symbols) (z .room) (c .left) (c .from) (c .to) (now chart) (now marks) count × (z .base ≤ count) × Indexed (z .words) (z .symbols) (chartIn (now chart) (z .base)) (now index) × RulesFit (z .symbols) (now rules) × (c .from < c .to) × (c .to ≤ z .words) × (many ≤ 64) × CellSet (grammarIn (now rules) many) (wordIs (take (z .words) (now words))) (chartIn (now chart) (z .base)) (c .left) (c .from) (c .to - c .from) set × Sorted (grammarIn (now rules) many) (z .words) (chartIn (now chart) (z .base)) (now sets) × (z .words ≤ length (now words)) ⌝ }
-    ensures { λ r. ⌜ Added (z .words) (z .symbols) (z .room) (c .left) (c .from) (c .to) (candidates (grammarIn (now (rules .entry)) many) (wordIs (take (z .words) (now (words .entry)))) (chartIn (now (chart .entry)) (z .base)) (c .left) (c .from) (c .to - c .from)) (now (chart .entry)) (now (marks .entry)) count (now (chart .exit)) (now (marks .exit)) r ⌝ }
+    requires { ⌜ Working (z .words) (z .symbols) (z .room) (c .left) (c .from) (c .to) (now chart) (now marks) count × (z .base ≤ count) × Indexed (z .words) (z .symbols) (chartIn (now chart) (z .base)) (now index) × RulesFit (z .symbols) (now rules) × (c .from < c .to) × (c .to ≤ z .words) × (many ≤ 64) × CellSet (grammarIn (now rules) many) (wordIs (take (z .words) (now words))) (chartIn (now chart) (z .base)) (c .left) (c .from) (c .to - c .from) set × Sorted (grammarIn (now rules) many) (z .words) (chartIn (now chart) (z .base)) (now sets) × (z .words ≤ length (now words)) × Covering (z .words) (z .symbols) (c .left) (c .from) (c .to) (chartIn (now chart) (z .base)) (chartIn (now chart) count) (now covers) × SpanFits (z .words) (z .symbols) (c .left) (c .from) (c .to) ⌝ }
+    ensures { λ r. ⌜ Advanced (z .words) (z .symbols) (z .room) (c .left) (c .from) (c .to) (z .base) (candidates (grammarIn (now (rules .entry)) many) (wordIs (take (z .words) (now (words .entry)))) (chartIn (now (chart .entry)) (z .base)) (c .left) (c .from) (c .to - c .from)) (now (chart .entry)) (now (marks .entry)) count (now (chart .exit)) (now (marks .exit)) (now (covers .exit)) r ⌝ }
 {
     let mut left = set;
     let mut p = 0;
@@ -172,7 +189,20 @@ pub fn fill_items(
     while left != 0 {
         let skip = u64::trailing_zeros(left);
         p += skip as usize;
-        now = by_rule(chart, marks, index, sets, z, c, rules, many, words, p, now);
+        now = by_rule(
+            chart,
+            marks,
+            index,
+            covers,
+            sets,
+            z,
+            c,
+            rules,
+            many,
+            words,
+            p,
+            now,
+        );
         if z.room < now {
             return now;
         }

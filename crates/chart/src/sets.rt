@@ -7,6 +7,7 @@ ghost use mathlib.Core.Path.{_≡_};
 ghost use Prim.Native.Nat.{_+_, _*_, _≤_, _<_};
 ghost use lib.ListN.{length, getD};
 ghost use Rattle.card.specs.Productions.{ruleFrom};
+ghost use Rattle.records.specs.Index.{spans};
 ghost use Rattle.steps.specs.Fits.{RuleFits};
 ghost use Rattle.chart.specs.Tables.{grammarIn, RulesFit, thisWord};
 ghost use Rattle.chart.specs.Fill.{Classified, Joined, withBit, SetOf, WordRule, Meets, Noted};
@@ -86,15 +87,18 @@ pub fn word_set(rules: &[u64; 64], many: usize, w: u8) -> u64
 
 // The productions that have both elements at some split of i to j.
 pub fn meeting(sets: &[u64], n: usize, i: usize, j: usize) -> u64
-    requires { ⌜ (n ≤ 24) × (i < j) × (j ≤ n) × (2 * (n * n) ≤ length (now sets)) ⌝ }
+    requires { ⌜ (n ≤ 24) × (i < j) × (j ≤ n) × (2 * spans n ≤ length (now sets)) ⌝ }
     ensures { λ r. ⌜ Meets n (now (sets .entry)) i j r ⌝ }
 {
     let mut set = 0u64;
     let mut k = i + 1;
+    // The spans that end before k.
+    let mut before = i * k / 2;
     while k < j {
-        let first = sets[2 * records::index::span_at(n, i, k)];
+        let first = sets[2 * (before + i)];
         let second = sets[2 * records::index::span_at(n, k, j) + 1];
         set = set | (first & second);
+        before += k;
         k += 1;
     }
     set
@@ -102,7 +106,7 @@ pub fn meeting(sets: &[u64], n: usize, i: usize, j: usize) -> u64
 
 // A cell got records: the productions that they can serve.
 pub fn note(sets: &mut [u64], by: &[u64; 80], n: usize, c: Cell, r: Range)
-    requires { ⌜ (n ≤ 24) × (c .from < c .to) × (c .to ≤ n) × (c .left < 16) × (2 * (n * n) ≤ length (now sets)) ⌝ }
+    requires { ⌜ (n ≤ 24) × (c .from < c .to) × (c .to ≤ n) × (c .left < 16) × (2 * spans n ≤ length (now sets)) ⌝ }
     ensures { λ u. ⌜ Noted n (now (by .entry)) (c .left) (c .from) (c .to) (r .bare) (now (sets .entry)) (now (sets .exit)) ⌝ }
 {
     let a = wide(c.left);

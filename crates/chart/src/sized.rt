@@ -1,4 +1,4 @@
-// The tables beside the room, on the stack. Their size goes by the words and by the cells, n * n for each nonterminal, so that
+// The tables beside the room, on the stack. Their sizes go by the words and by whether the card has at most 6 nonterminals, so that
 // clearing them costs little where little is needed.
 use card::Card;
 ghost use mathlib.Core.Path.{_≡_};
@@ -19,9 +19,10 @@ fn build_with(
     chart: &mut [u8],
     marks: &mut [u8],
     index: &mut [u16],
+    covers: &mut [u16],
     sets: &mut [u64],
 ) -> usize
-    requires { ⌜ Buildable (now card) (now words) n × RoomLent room (now chart) × TablesLent n (nonterminalCount (now card)) (now marks) (now index) (now sets) ⌝ }
+    requires { ⌜ Buildable (now card) (now words) n × RoomLent room (now chart) × TablesLent n (nonterminalCount (now card)) (now marks) (now index) (now sets) (now covers) ⌝ }
     ensures { λ r. ⌜ Closed room (build room (grammarOf (now (card .entry))) (wordIs (take n (now (words .entry)))) (nonterminalCount (now (card .entry))) n) (now (chart .entry)) (now (chart .exit)) r ⌝ }
 {
     let counts = Card::of(card);
@@ -33,6 +34,7 @@ fn build_with(
         chart,
         marks,
         index,
+        covers,
         sets,
         &by,
         n,
@@ -45,12 +47,13 @@ fn build_with(
 }
 
 fn build_least(card: &[u8], words: &[u8; 24], n: usize, room: usize, chart: &mut [u8]) -> usize
-    requires { ⌜ Buildable (now card) (now words) n × RoomLent room (now chart) × (n ≤ 4) × (n * n * nonterminalCount (now card) ≤ 96) ⌝ }
+    requires { ⌜ Buildable (now card) (now words) n × RoomLent room (now chart) × (n ≤ 4) × (nonterminalCount (now card) ≤ 6) ⌝ }
     ensures { λ r. ⌜ Closed room (build room (grammarOf (now (card .entry))) (wordIs (take n (now (words .entry)))) (nonterminalCount (now (card .entry))) n) (now (chart .entry)) (now (chart .exit)) r ⌝ }
 {
     let mut marks = [0u8; 97];
-    let mut index = [0u16; 288];
-    let mut sets = [0u64; 32];
+    let mut index = [0u16; 180];
+    let mut covers = [0u16; 60];
+    let mut sets = [0u64; 20];
     build_with(
         card,
         words,
@@ -59,17 +62,19 @@ fn build_least(card: &[u8], words: &[u8; 24], n: usize, room: usize, chart: &mut
         chart,
         &mut marks,
         &mut index,
+        &mut covers,
         &mut sets,
     )
 }
 
 fn build_short(card: &[u8], words: &[u8; 24], n: usize, room: usize, chart: &mut [u8]) -> usize
-    requires { ⌜ Buildable (now card) (now words) n × RoomLent room (now chart) × (n ≤ 6) × (n * n * nonterminalCount (now card) ≤ 576) ⌝ }
+    requires { ⌜ Buildable (now card) (now words) n × RoomLent room (now chart) × (n ≤ 6) ⌝ }
     ensures { λ r. ⌜ Closed room (build room (grammarOf (now (card .entry))) (wordIs (take n (now (words .entry)))) (nonterminalCount (now (card .entry))) n) (now (chart .entry)) (now (chart .exit)) r ⌝ }
 {
     let mut marks = [0u8; 577];
-    let mut index = [0u16; 1728];
-    let mut sets = [0u64; 72];
+    let mut index = [0u16; 1008];
+    let mut covers = [0u16; 336];
+    let mut sets = [0u64; 42];
     build_with(
         card,
         words,
@@ -78,17 +83,19 @@ fn build_short(card: &[u8], words: &[u8; 24], n: usize, room: usize, chart: &mut
         chart,
         &mut marks,
         &mut index,
+        &mut covers,
         &mut sets,
     )
 }
 
 fn build_middle_few(card: &[u8], words: &[u8; 24], n: usize, room: usize, chart: &mut [u8]) -> usize
-    requires { ⌜ Buildable (now card) (now words) n × RoomLent room (now chart) × (n ≤ 12) × (n * n * nonterminalCount (now card) ≤ 864) ⌝ }
+    requires { ⌜ Buildable (now card) (now words) n × RoomLent room (now chart) × (n ≤ 12) × (nonterminalCount (now card) ≤ 6) ⌝ }
     ensures { λ r. ⌜ Closed room (build room (grammarOf (now (card .entry))) (wordIs (take n (now (words .entry)))) (nonterminalCount (now (card .entry))) n) (now (chart .entry)) (now (chart .exit)) r ⌝ }
 {
     let mut marks = [0u8; 865];
-    let mut index = [0u16; 2592];
-    let mut sets = [0u64; 288];
+    let mut index = [0u16; 1404];
+    let mut covers = [0u16; 468];
+    let mut sets = [0u64; 156];
     build_with(
         card,
         words,
@@ -97,17 +104,19 @@ fn build_middle_few(card: &[u8], words: &[u8; 24], n: usize, room: usize, chart:
         chart,
         &mut marks,
         &mut index,
+        &mut covers,
         &mut sets,
     )
 }
 
 fn build_middle(card: &[u8], words: &[u8; 24], n: usize, room: usize, chart: &mut [u8]) -> usize
-    requires { ⌜ Buildable (now card) (now words) n × RoomLent room (now chart) × (n ≤ 12) × (n * n * nonterminalCount (now card) ≤ 2304) ⌝ }
+    requires { ⌜ Buildable (now card) (now words) n × RoomLent room (now chart) × (n ≤ 12) ⌝ }
     ensures { λ r. ⌜ Closed room (build room (grammarOf (now (card .entry))) (wordIs (take n (now (words .entry)))) (nonterminalCount (now (card .entry))) n) (now (chart .entry)) (now (chart .exit)) r ⌝ }
 {
     let mut marks = [0u8; 2305];
-    let mut index = [0u16; 6912];
-    let mut sets = [0u64; 288];
+    let mut index = [0u16; 3744];
+    let mut covers = [0u16; 1248];
+    let mut sets = [0u64; 156];
     build_with(
         card,
         words,
@@ -116,17 +125,19 @@ fn build_middle(card: &[u8], words: &[u8; 24], n: usize, room: usize, chart: &mu
         chart,
         &mut marks,
         &mut index,
+        &mut covers,
         &mut sets,
     )
 }
 
 fn build_long_few(card: &[u8], words: &[u8; 24], n: usize, room: usize, chart: &mut [u8]) -> usize
-    requires { ⌜ Buildable (now card) (now words) n × RoomLent room (now chart) × (n ≤ 24) × (n * n * nonterminalCount (now card) ≤ 3456) ⌝ }
+    requires { ⌜ Buildable (now card) (now words) n × RoomLent room (now chart) × (nonterminalCount (now card) ≤ 6) ⌝ }
     ensures { λ r. ⌜ Closed room (build room (grammarOf (now (card .entry))) (wordIs (take n (now (words .entry)))) (nonterminalCount (now (card .entry))) n) (now (chart .entry)) (now (chart .exit)) r ⌝ }
 {
     let mut marks = [0u8; 3457];
-    let mut index = [0u16; 10368];
-    let mut sets = [0u64; 1152];
+    let mut index = [0u16; 5400];
+    let mut covers = [0u16; 1800];
+    let mut sets = [0u64; 600];
     build_with(
         card,
         words,
@@ -135,17 +146,19 @@ fn build_long_few(card: &[u8], words: &[u8; 24], n: usize, room: usize, chart: &
         chart,
         &mut marks,
         &mut index,
+        &mut covers,
         &mut sets,
     )
 }
 
 fn build_long(card: &[u8], words: &[u8; 24], n: usize, room: usize, chart: &mut [u8]) -> usize
-    requires { ⌜ Buildable (now card) (now words) n × RoomLent room (now chart) × (n ≤ 24) × (n * n * nonterminalCount (now card) ≤ 9216) ⌝ }
+    requires { ⌜ Buildable (now card) (now words) n × RoomLent room (now chart) ⌝ }
     ensures { λ r. ⌜ Closed room (build room (grammarOf (now (card .entry))) (wordIs (take n (now (words .entry)))) (nonterminalCount (now (card .entry))) n) (now (chart .entry)) (now (chart .exit)) r ⌝ }
 {
     let mut marks = [0u8; 9217];
-    let mut index = [0u16; 27648];
-    let mut sets = [0u64; 1152];
+    let mut index = [0u16; 14400];
+    let mut covers = [0u16; 4800];
+    let mut sets = [0u64; 600];
     build_with(
         card,
         words,
@@ -154,6 +167,7 @@ fn build_long(card: &[u8], words: &[u8; 24], n: usize, room: usize, chart: &mut 
         chart,
         &mut marks,
         &mut index,
+        &mut covers,
         &mut sets,
     )
 }
@@ -163,9 +177,8 @@ pub fn build_in(card: &[u8], words: &[u8; 24], n: usize, room: usize, chart: &mu
     ensures { λ r. ⌜ Closed room (build room (grammarOf (now (card .entry))) (wordIs (take n (now (words .entry)))) (nonterminalCount (now (card .entry))) n) (now (chart .entry)) (now (chart .exit)) r ⌝ }
 {
     let symbols = Card::of(card).nonterminals;
-    let cells = n * n * symbols;
     if n <= 4 {
-        if cells <= 96 {
+        if symbols <= 6 {
             return build_least(card, words, n, room, chart);
         }
     }
@@ -173,12 +186,12 @@ pub fn build_in(card: &[u8], words: &[u8; 24], n: usize, room: usize, chart: &mu
         return build_short(card, words, n, room, chart);
     }
     if n <= 12 {
-        if cells <= 864 {
+        if symbols <= 6 {
             return build_middle_few(card, words, n, room, chart);
         }
         return build_middle(card, words, n, room, chart);
     }
-    if cells <= 3456 {
+    if symbols <= 6 {
         return build_long_few(card, words, n, room, chart);
     }
     build_long(card, words, n, room, chart)

@@ -3,3 +3,4 @@ pub mod TableLaws
 pub mod RoomLaws
 pub mod MarkLaws
 pub mod AddLaws
+pub mod CoverLaws

@@ -1,6 +1,6 @@
 -- Marks. A foot's mark is one bit of one byte, no two feet share one, so a bit that is set marks one foot and leaves the others.
--- The byte is looked up by its place, the bit by the list of powers that the code keeps.
-use Prim.Native.Nat.{ℕ, zero, suc, _+_, _*_, _^_, _≤_, _<_}
+-- The byte is looked up by its place, and the bit is a power of 2.
+use Prim.Native.Nat.{ℕ, _+_, _*_, _%_, _^_, _<_}
 use native.Mathlib.Omega.{arith}
 use native.Mathlib.Decide.{ℕ-discrete}
 use mathlib.Core.Path.{_≡_, refl, sym, _∙_, ap}
@@ -42,40 +42,22 @@ same-false φ ψ h = go (sameFoot φ ψ) refl
     go true e = absurd (h (true-same φ ψ e))
     go false e = e
 
--- The powers that the code lists, by index.
-abbrev pub powers : List ℕ
-powers = 1 ∷ 1 ∷ 2 ∷ 4 ∷ 8 ∷ 16 ∷ 32 ∷ 64 ∷ 128 ∷ []
+-- The power that the code makes of an index.
+pub power-at : (γ B p q : ℕ) → 2 ^ (γ % 8) ≡ 2 ^ markBit (footOf γ B p q)
+power-at γ B p q = elim (ℕ-discrete γ 0) [ yes e ↦ rw e | no d ↦ rw (ne-eqb γ 0 d) ]
 
-pub power-at : (γ B p q : ℕ) → γ ≤ 8 → getD powers γ 0 ≡ 2 ^ markBit (footOf γ B p q)
-power-at zero B p q h = refl
-power-at (suc zero) B p q h = refl
-power-at (suc (suc zero)) B p q h = refl
-power-at (suc (suc (suc zero))) B p q h = refl
-power-at (suc (suc (suc (suc zero)))) B p q h = refl
-power-at (suc (suc (suc (suc (suc zero))))) B p q h = refl
-power-at (suc (suc (suc (suc (suc (suc zero)))))) B p q h = refl
-power-at (suc (suc (suc (suc (suc (suc (suc zero))))))) B p q h = refl
-power-at (suc (suc (suc (suc (suc (suc (suc (suc zero)))))))) B p q h = refl
-power-at (suc (suc (suc (suc (suc (suc (suc (suc (suc γ))))))))) B p q h = absurd (omega arith)
-
--- Feet as the code has them: without an index the byte is 0; and an index that fits is at most 8.
+-- Feet as the code has them: without an index the byte is 0.
 pub slot-without : (n γ B p q : ℕ) → γ ≡ 0 → markSlot n (footOf γ B p q) ≡ 0
 slot-without n γ B p q e = rw (eq-eqb γ 0 e)
 
 pub slot-with : (n γ B p q : ℕ) → (γ ≡ 0 → ⊥) → markSlot n (footOf γ B p q) ≡ (B * n + p) * n + q
 slot-with n γ B p q d = rw (ne-eqb γ 0 d)
 
-pub index-fits : (n N γ B p q : ℕ) → FootFits n N (footOf γ B p q) → γ ≤ 8
-index-fits n N γ B p q h = elim (ℕ-discrete γ 0) [
-  | yes e ↦ omega arith
-  | no d ↦ let f : FootFits n N (foot γ B p q) = rw (ne-eqb γ 0 d) at h in f .1
-]
-
 -- Looking at a mark, and setting it.
-pub mark-seen : (n : ℕ) (marks : List ℕ) (γ B p q : ℕ) {at k : ℕ} → at ≡ markSlot n (footOf γ B p q) → k ≡ γ → γ ≤ 8
-    → not (eqb (bitAnd (getD marks at 0) (getD powers k 0)) 0) ≡ markOf n marks (footOf γ B p q)
-mark-seen n marks γ B p q e d h =
-    let φ = footOf γ B p q in rw (e, d, power-at γ B p q h) (test-bit (markBit φ) (getD marks (markSlot n φ) 0))
+pub mark-seen : (n : ℕ) (marks : List ℕ) (γ B p q : ℕ) {at bit : ℕ} → at ≡ markSlot n (footOf γ B p q) → bit ≡ 2 ^ (γ % 8)
+    → not (eqb (bitAnd (getD marks at 0) bit) 0) ≡ markOf n marks (footOf γ B p q)
+mark-seen n marks γ B p q e d =
+    let φ = footOf γ B p q in rw (e, d, power-at γ B p q) (test-bit (markBit φ) (getD marks (markSlot n φ) 0))
 
 module _ (n N : ℕ) (ψ : Foot) (old : List ℕ) (fits : FootFits n N ψ) (inside : markSlot n ψ < length old) where
   abbrev byte : ℕ
@@ -106,8 +88,8 @@ module _ (n N : ℕ) (ψ : Foot) (old : List ℕ) (fits : FootFits n N ψ) (insi
   pub mark-added : MarkAdded n ψ old after
   mark-added = record { sameLength = simp length-set; others = others }
 
-pub mark-set : (n N : ℕ) (old : List ℕ) (γ B p q : ℕ) {at k : ℕ} → at ≡ markSlot n (footOf γ B p q) → k ≡ γ
+pub mark-set : (n N : ℕ) (old : List ℕ) (γ B p q : ℕ) {at bit : ℕ} → at ≡ markSlot n (footOf γ B p q) → bit ≡ 2 ^ (γ % 8)
     → FootFits n N (footOf γ B p q) → markSlot n (footOf γ B p q) < length old
-    → MarkAdded n (footOf γ B p q) old (set old at (bitOr (getD old at 0) (getD powers k 0)))
+    → MarkAdded n (footOf γ B p q) old (set old at (bitOr (getD old at 0) bit))
 mark-set n N old γ B p q e d fits inside =
-    rw (e, d, power-at γ B p q (index-fits n N γ B p q fits)) (mark-added n N (footOf γ B p q) old fits inside)
+    rw (e, d, power-at γ B p q) (mark-added n N (footOf γ B p q) old fits inside)

@@ -1,20 +1,21 @@
 -- Places in the tables: each is below the table's length, and two spans, cells or feet that share a place are one.
--- A place is a number written with n as the base, so its digits can be read back.
-use Prim.Native.Nat.{ℕ, suc, _+_, _*_, _-_, _/_, _%_, _≤_, _<_}
-use native.Mathlib.Nat.{mul-le-mul-right}
+-- The place of a cell or foot is a number written with N or n as the base, so its digits can be read back.
+use Prim.Native.Nat.{ℕ, zero, suc, _+_, _*_, _-_, _/_, _%_, _≤_, _<_}
+use native.Mathlib.Nat.{le-refl, add-zero, add-suc, mul-suc, mul-comm, mul-le-mul-right}
+use native.Mathlib.Decide.{ℕ-discrete}
 use native.Mathlib.Omega.{arith}
-use mathlib.Core.Path.{_≡_, refl, sym, ap, _∙_}
+use mathlib.Core.Path.{_≡_, refl, sym, ap, _∙_, subst}
 use mathlib.Core.Logic.{_⊎_, inl, inr}
 use mathlib.Core.Bool.{Bool, true, false, cond, _||_}
 use mathlib.Core.List.{List}
 use lib.Arith.{digits-div, digits-mod}
 use lib.Dec.{ltb}
 use lib.ListN.{getD}
-use borrow.Author.Tests.{ltb-false, lt-ltb, le-ltb}
+use borrow.Author.Tests.{ltb-true, ltb-false, lt-ltb, le-ltb}
 use Rattle.grammar.specs.Items.{Foot, bare, foot}
 use Rattle.records.specs.declared.index.Range.{Range}
 use Rattle.records.specs.Room.{FootFits, markSlot, markBit}
-use Rattle.records.specs.Index.{spanAt, cellAt, emptyRange, rangeIn}
+use Rattle.records.specs.Index.{spans, spanAt, cellAt, emptyRange, rangeIn}
 
 -- A cell's numbers as they stand.
 abbrev pub rangeThere : List ℕ → ℕ → Range
@@ -55,20 +56,60 @@ digits-same n a b r s h k e = (
   sym (digits-mod a h) ∙ ap (λ (x : ℕ). x % n) e ∙ digits-mod b k,
 )
 
-pub span-below : (n i j : ℕ) → i < j → j ≤ n → spanAt n i j < n * n
-span-below n i j h k = let whole : suc i ≤ n = omega arith in omega (arith, mul-le-mul-right n whole)
+-- The spans of n words: twice their number is n * (n + 1), more words have more of them, and the spans that end at j come last among
+-- those of j words.
+pub spans-twice : (n : ℕ) → n * suc n ≡ 2 * spans n
+spans-twice zero = refl
+spans-twice (suc n) = omega (arith, spans-twice n, mul-suc (suc n) (suc n), mul-suc (suc n) n, mul-comm n (suc n))
 
-pub span-same : (n i j i′ j′ : ℕ) → i < j → j ≤ n → i′ < j′ → j′ ≤ n → spanAt n i j ≡ spanAt n i′ j′ → (i ≡ i′) × (j ≡ j′)
-span-same n i j i′ j′ h k h′ k′ e =
-    let (a, b) = digits-same n i i′ (j - 1) (j′ - 1) (omega arith) (omega arith) e in (a, omega arith)
+pub spans-first : (i : ℕ) → i * (i + 1) / 2 ≡ spans (i + 1 - 1)
+spans-first i = let e : i + 1 - 1 ≡ i = omega arith in let s : i + 1 ≡ suc i = omega arith in rw (e, s) (omega (arith, spans-twice i))
 
-pub cell-below : (n N A i j : ℕ) → A < N → i < j → j ≤ n → cellAt n N A i j < n * n * N
+pub spans-next : (k : ℕ) → 0 < k → spans (k - 1) + k ≡ spans (k + 1 - 1)
+spans-next zero h = absurd (omega arith)
+spans-next (suc k) h = let e : suc k - 1 ≡ k = omega arith in let s : suc k + 1 - 1 ≡ suc k = omega arith in rw (e, s) refl
+
+spans-on : (m d : ℕ) → spans m ≤ spans (m + d)
+spans-on m zero = rw add-zero (le-refl (spans m))
+spans-on m (suc d) = rw add-suc (omega (arith, spans-on m d))
+
+pub spans-more : (m n : ℕ) → m ≤ n → spans m ≤ spans n
+spans-more m n h = let e : m + (n - m) ≡ n = omega arith in subst (λ (k : ℕ). spans m ≤ spans k) e (spans-on m (n - m))
+
+spans-last : (i j : ℕ) → i < j → spanAt i j + (j - i) ≡ spans j
+spans-last i zero h = absurd (omega arith)
+spans-last i (suc j) h = let e : suc j - 1 ≡ j = omega arith in rw e (omega arith)
+
+pub span-below : (n i j : ℕ) → i < j → j ≤ n → spanAt i j < spans n
+span-below n i j h k = omega (arith, spans-last i j h, spans-more j n k)
+
+-- So spans with different ends have different places.
+span-before : (i j i′ j′ : ℕ) → i < j → i′ < j′ → j < j′ → spanAt i j < spanAt i′ j′
+span-before i j i′ j′ h h′ l = omega (arith, spans-last i j h, spans-more j (j′ - 1) (omega arith))
+
+apart : (a b : ℕ) → (a ≡ b → ⊥) → (a < b) ⊎ (b < a)
+apart a b d = go (ltb a b) refl
+  where
+    go : (t : Bool) → ltb a b ≡ t → (a < b) ⊎ (b < a)
+    go true e = inl (ltb-true a b e)
+    go false e = inr (omega (arith, ltb-false a b e))
+
+pub span-same : (n i j i′ j′ : ℕ) → i < j → j ≤ n → i′ < j′ → j′ ≤ n → spanAt i j ≡ spanAt i′ j′ → (i ≡ i′) × (j ≡ j′)
+span-same n i j i′ j′ h k h′ k′ e = elim (ℕ-discrete j j′) [
+  | yes s ↦ (let t : spans (j - 1) ≡ spans (j′ - 1) = ap (λ (x : ℕ). spans (x - 1)) s in omega arith, s)
+  | no d ↦ absurd (elim (apart j j′ d) [
+    | inl l ↦ omega (arith, span-before i j i′ j′ h h′ l)
+    | inr l ↦ omega (arith, span-before i′ j′ i j h′ h l)
+  ])
+]
+
+pub cell-below : (n N A i j : ℕ) → A < N → i < j → j ≤ n → cellAt N A i j < spans n * N
 cell-below n N A i j a h k = omega (arith, mul-le-mul-right N (span-below n i j h k))
 
 pub cell-same : (n N A i j A′ i′ j′ : ℕ) → A < N → i < j → j ≤ n → A′ < N → i′ < j′ → j′ ≤ n
-    → cellAt n N A i j ≡ cellAt n N A′ i′ j′ → (A ≡ A′) × (i ≡ i′) × (j ≡ j′)
+    → cellAt N A i j ≡ cellAt N A′ i′ j′ → (A ≡ A′) × (i ≡ i′) × (j ≡ j′)
 cell-same n N A i j A′ i′ j′ a h k a′ h′ k′ e =
-    let (s, b) = digits-same N (spanAt n i j) (spanAt n i′ j′) A A′ a a′ e in
+    let (s, b) = digits-same N (spanAt i j) (spanAt i′ j′) A A′ a a′ e in
     let (x, y) = span-same n i j i′ j′ h k h′ k′ s in (b, x, y)
 
 -- What fits N nonterminals fits more.

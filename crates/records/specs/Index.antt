@@ -10,12 +10,21 @@ use Rattle.layout.specs.Bytes.{counted}
 use Rattle.chart_model.specs.Build.{places, barePlaces}
 use Rattle.records.specs.declared.index.Range.{Range}
 
--- The place of the span i to j in a table over n words, and of the cell of A over it in a table of N nonterminals a span.
-abbrev pub spanAt : ℕ → ℕ → ℕ → ℕ
-spanAt n i j = i * n + (j - 1)
+-- The spans of n words; the place of the span i to j among them, those with an earlier end first, and of the cell of A over it where
+-- each span has N nonterminals.
+abbrev pub spans : ℕ → ℕ
+spans zero = 0
+spans (suc n) = spans n + suc n
 
-abbrev pub cellAt : ℕ → ℕ → ℕ → ℕ → ℕ → ℕ
-cellAt n N A i j = spanAt n i j * N + A
+abbrev pub spanAt : ℕ → ℕ → ℕ
+spanAt i j = spans (j - 1) + i
+
+abbrev pub cellAt : ℕ → ℕ → ℕ → ℕ → ℕ
+cellAt N A i j = spanAt i j * N + A
+
+-- A cell whose parts are counted.
+abbrev pub SpanFits : ℕ → ℕ → ℕ → ℕ → ℕ → Type 0
+SpanFits n N A i j = (A < N) × (i < j) × (j ≤ n)
 
 -- A cell's three numbers: its first position, the one past its last, and one more than that of its bare item, or 0. Numbers past the
 -- base, the count of records that were there when the present cell was begun, stand for no records.
@@ -33,7 +42,7 @@ bareIn (suc m) = m ∷ []
 
 -- The table says where the records of b stand: for every cell, filled or not.
 pub record Indexed (n N : ℕ) (b : List Record) (index : List ℕ) : Type 0 where
-  pub long : 3 * (n * n * N) ≤ length index
-  pub ranges : (A i j : ℕ) → A < N → i < j → j ≤ n → let r = rangeIn index (cellAt n N A i j) (length b) in
+  pub long : 3 * (spans n * N) ≤ length index
+  pub ranges : (A i j : ℕ) → A < N → i < j → j ≤ n → let r = rangeIn index (cellAt N A i j) (length b) in
       places b A i j ≡ counted (r .from) (r .to - r .from)
-  pub bares : (A i j : ℕ) → A < N → i < j → j ≤ n → barePlaces b A i j ≡ bareIn (rangeIn index (cellAt n N A i j) (length b) .bare)
+  pub bares : (A i j : ℕ) → A < N → i < j → j ≤ n → barePlaces b A i j ≡ bareIn (rangeIn index (cellAt N A i j) (length b) .bare)

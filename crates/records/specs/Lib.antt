@@ -1,3 +1,4 @@
 pub mod Bits
 pub mod Room
 pub mod Index
+pub mod Cover

@@ -1,5 +1,5 @@
 -- The records of a chart in the bytes of a room, and what adding to them promises.
-use Prim.Native.Nat.{ℕ, zero, suc, _+_, _*_, _-_, _≤_, _<_}
+use Prim.Native.Nat.{ℕ, zero, suc, _+_, _*_, _%_, _≤_, _<_}
 use mathlib.Core.Path.{_≡_}
 use mathlib.Core.Bool.{Bool, true, false, cond, _||_}
 use mathlib.Core.List.{List, [], _∷_, _++_, map}
@@ -37,14 +37,14 @@ FootFits n N (foot γ B p q) = (1 ≤ γ) × (γ ≤ 8) × (B < N) × (p < q) ×
 abbrev pub FeetFit : ℕ → ℕ → List Record → Type 0
 FeetFit n N c = (m : ℕ) → m < length c → FootFits n N (footAt c m)
 
--- The mark of a foot: bit γ - 1 of the byte for its B, p and q; bit 0 of byte 0 for the bare item.
+-- The mark of a foot: bit γ % 8 of the byte for its B, p and q; bit 0 of byte 0 for the bare item.
 abbrev pub markSlot : ℕ → Foot → ℕ
 markSlot n bare = 0
 markSlot n (foot γ B p q) = (B * n + p) * n + q
 
 abbrev pub markBit : Foot → ℕ
 markBit bare = 0
-markBit (foot γ B p q) = γ - 1
+markBit (foot γ B p q) = γ % 8
 
 abbrev pub markOf : ℕ → List ℕ → Foot → Bool
 markOf n marks φ = holdsBit (markBit φ) (getD marks (markSlot n φ) 0)

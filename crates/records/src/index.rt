@@ -2,7 +2,7 @@
 ghost use mathlib.Core.Path.{_≡_};
 ghost use Prim.Native.Nat.{_+_, _*_, _≤_, _<_};
 ghost use lib.ListN.{length, set};
-ghost use Rattle.records.specs.Index.{spanAt, cellAt, rangeIn};
+ghost use Rattle.records.specs.Index.{spans, spanAt, cellAt, rangeIn};
 
 // The positions from..to, and one more than the position of the bare item, or 0.
 pub struct Range {
@@ -11,23 +11,23 @@ pub struct Range {
     pub bare: usize,
 }
 
-fn wide16(x: u16) -> usize
+pub fn wide16(x: u16) -> usize
     ensures { λ r. ⌜ r ≡ x ⌝ }
 {
     x as usize
 }
 
-// The place of a span in a table over n words, and of a cell in a table of N nonterminals a span.
+// The place of a span among those of n words, and of a cell where each span has N nonterminals.
 pub fn span_at(n: usize, i: usize, j: usize) -> usize
     requires { ⌜ (n ≤ 24) × (i < j) × (j ≤ n) ⌝ }
-    ensures { λ r. ⌜ (r ≡ spanAt n i j) × (r < n * n) ⌝ }
+    ensures { λ r. ⌜ (r ≡ spanAt i j) × (r < spans n) ⌝ }
 {
-    i * n + (j - 1)
+    j * (j - 1) / 2 + i
 }
 
 pub fn cell_at(n: usize, symbols: usize, a: usize, i: usize, j: usize) -> usize
     requires { ⌜ (n ≤ 24) × (symbols ≤ 16) × (a < symbols) × (i < j) × (j ≤ n) ⌝ }
-    ensures { λ r. ⌜ (r ≡ cellAt n symbols a i j) × (r < n * n * symbols) ⌝ }
+    ensures { λ r. ⌜ (r ≡ cellAt symbols a i j) × (r < spans n * symbols) ⌝ }
 {
     span_at(n, i, j) * symbols + a
 }

@@ -2,11 +2,16 @@
 use crate::record::Foot;
 use crate::record::wide;
 ghost use mathlib.Core.Path.{_≡_};
-ghost use Prim.Native.Nat.{_≤_, _<_};
+ghost use Prim.Native.Nat.{_%_, _^_, _≤_, _<_};
 ghost use lib.ListN.{length, set};
 ghost use Rattle.records.specs.Room.{footFrom, markSlot, markOf, FootFits, MarkAdded};
 
-const BITS: [u8; 9] = [1, 1, 2, 4, 8, 16, 32, 64, 128];
+// The bit of an index, of which there are at most 8; the bare item has the byte 0 to itself.
+fn bit_of(index: u8) -> u8
+    ensures { λ r. ⌜ r ≡ 2 ^ (index % 8) ⌝ }
+{
+    1u8 << (index % 8)
+}
 
 fn slot(n: usize, f: Foot) -> usize
     requires { ⌜ n ≤ 24 ⌝ }
@@ -20,10 +25,10 @@ fn slot(n: usize, f: Foot) -> usize
 }
 
 pub fn seen(marks: &[u8], n: usize, f: Foot) -> bool
-    requires { ⌜ (n ≤ 24) × (f .index ≤ 8) × (markSlot n (footFrom f) < length (now marks)) ⌝ }
+    requires { ⌜ (n ≤ 24) × (markSlot n (footFrom f) < length (now marks)) ⌝ }
     ensures { λ r. ⌜ r ≡ markOf n (now (marks .entry)) (footFrom f) ⌝ }
 {
-    let bit = BITS[wide(f.index)];
+    let bit = bit_of(f.index);
     let at = slot(n, f);
     marks[at] & bit != 0
 }
@@ -32,7 +37,7 @@ pub fn mark(marks: &mut [u8], n: usize, f: Foot)
     requires { ⌜ (n ≤ 24) × FootFits n 256 (footFrom f) × (markSlot n (footFrom f) < length (now marks)) ⌝ }
     ensures { λ r. ⌜ MarkAdded n (footFrom f) (now (marks .entry)) (now (marks .exit)) ⌝ }
 {
-    let bit = BITS[wide(f.index)];
+    let bit = bit_of(f.index);
     let at = slot(n, f);
     marks[at] = marks[at] | bit;
 }

@@ -22,8 +22,8 @@ use Rattle.chart_model.specs.Build.{flatUp, places, barePlaces, footAt, takenFr
 use Rattle.records.specs.declared.record.Foot as declared
 use Rattle.records.specs.declared.index.Range.{Range}
 use Rattle.records.specs.Room.{footOf, footThere, chartIn, footFrom, FootFits, Working, Added}
-use Rattle.records.specs.Index.{cellAt, rangeIn, bareIn, Indexed}
-use Rattle.steps.specs.Fits.{SpanFits}
+use Rattle.records.specs.Index.{cellAt, rangeIn, bareIn, SpanFits, Indexed}
+use Rattle.records.specs.Cover.{Stretch}
 use Rattle.records.proofs.RoomLaws.{chart-length, foot-at}
 use Rattle.records.proofs.TableLaws.{range-within}
 use Rattle.steps.proofs.StepLaws.{concatMap-counted, added-none, added-as, foot-fits}
@@ -49,17 +49,22 @@ pub bare-below : (index : List ℕ) (at base : ℕ) {R : Range} → R ≡ rangeI
 bare-below index at base r = subst (λ (R : Range). R .bare ≤ base) (sym r) (range-within index at base .1)
 
 module _ {n N : ℕ} (chart : List ℕ) (base : ℕ) {index : List ℕ} (t : Indexed n N (chartIn chart base) index) {B p q w₁ w₂ w₃ : ℕ}
-    (s : SpanFits n N B p q) (e₁ : w₁ ≡ B) (e₂ : w₂ ≡ p) (e₃ : w₃ ≡ q) {at : ℕ} (e : at ≡ cellAt n N w₁ w₂ w₃) {R : Range}
+    (s : SpanFits n N B p q) (e₁ : w₁ ≡ B) (e₂ : w₂ ≡ p) (e₃ : w₃ ≡ q) {at : ℕ} (e : at ≡ cellAt N w₁ w₂ w₃) {R : Range}
     (r : R ≡ rangeIn index at base) where
-  read-range : R ≡ rangeIn index (cellAt n N B p q) (length (chartIn chart base))
+  pub read-at : at ≡ cellAt N B p q
+  read-at = cc
+
+  read-range : R ≡ rangeIn index (cellAt N B p q) (length (chartIn chart base))
   read-range =
-      let c : at ≡ cellAt n N B p q = cc in
-      r ∙ (ap (λ (a : ℕ). rangeIn index a base) c ∙ ap (rangeIn index (cellAt n N B p q)) (sym (chart-length chart base)))
+      r ∙ (ap (λ (a : ℕ). rangeIn index a base) read-at ∙ ap (rangeIn index (cellAt N B p q)) (sym (chart-length chart base)))
 
   pub range-places : places (chartIn chart base) B p q ≡ counted (R .from) (R .to - R .from)
   range-places =
       subst (λ (R : Range). places (chartIn chart base) B p q ≡ counted (R .from) (R .to - R .from)) (sym read-range)
       (t .ranges B p q (s .0) (s .1) (s .2))
+
+  abbrev pub range-stretch : Stretch n N (chartIn chart base) at (R .from) (R .to)
+  range-stretch = record { symbol = B; start = p; end = q; fits = s; number = read-at; stands = range-places }
 
   pub range-bares : barePlaces (chartIn chart base) B p q ≡ bareIn (R .bare)
   range-bares =
@@ -109,14 +114,12 @@ module _ {n N room A i j : ℕ} {chart marks : List ℕ} {count : ℕ} (w : Work
       b : List Record
       b = chartIn chart base
 
-  pub given-each : {g : ℕ} {new newMarks : List ℕ} {after : ℕ} (p x : ℕ) (R : Range) → f .index ≡ g → 1 ≤ g
+  pub given-each : {g : ℕ} (p x : ℕ) (R : Range) → f .index ≡ g → 1 ≤ g
       → places (chartIn chart base) (f .symbol) (f .from) (f .to) ≡ counted (R .from) (R .to - R .from)
-      → Added n N room A i j (flatUp (continued (chartIn chart base) A i j p x y) (R .from) (R .to - R .from)) chart marks count new
-      newMarks after
-      → Added n N room A i j (givenFrom (chartIn chart base) A i j p x g y) chart marks count new newMarks after
-  given-each {g} p x R d u t a =
-      added-as (given-same b A i j p x y g (f .index) (f .symbol) (f .from) (f .to) (R .from) (R .to) d u t
-      ∙ ap (givenFoot b A i j p x y g) read-foot) a
+      → flatUp (continued (chartIn chart base) A i j p x y) (R .from) (R .to - R .from) ≡ givenFrom (chartIn chart base) A i j p x g y
+  given-each {g} p x R d u t =
+      given-same b A i j p x y g (f .index) (f .symbol) (f .from) (f .to) (R .from) (R .to) d u t
+      ∙ ap (givenFoot b A i j p x y g) read-foot
     where
       b : List Record
       b = chartIn chart base

@@ -1,12 +1,9 @@
--- What the deduction steps ask of their parts: nonterminals, indices and stretches that are counted.
+-- What the deduction steps ask of their parts: nonterminals and indices that are counted.
 use Prim.Native.Nat.{ℕ, _≤_, _<_}
 use mathlib.Core.List.{List, [], _∷_}
 use Rattle.grammar.specs.Rewriting.{Rule, Lexical, Spine, Action, Take, Keep, Give}
 
--- A nonterminal over a stretch, an action and a rule whose parts are counted.
-abbrev pub SpanFits : ℕ → ℕ → ℕ → ℕ → ℕ → Type 0
-SpanFits n N D k m = (D < N) × (k < m) × (m ≤ n)
-
+-- An action and a rule whose parts are counted.
 abbrev pub ActionFits : Action → Type 0
 ActionFits (Take γ) = (1 ≤ γ) × (γ ≤ 8)
 ActionFits Keep = Unit {0}

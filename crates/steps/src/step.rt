@@ -9,14 +9,16 @@ use records::record::Foot;
 use records::record::NOWHERE;
 use records::record::Step;
 use records::record::wide;
-ghost use Prim.Native.Nat.{_-_, _≤_, _<_};
+ghost use mathlib.Core.Path.{_≡_};
+ghost use Prim.Native.Nat.{_-_, _*_, _≤_, _<_};
 ghost use Rattle.layout.specs.Bytes.{counted};
 ghost use Rattle.grammar.specs.Lists.{concatMap};
 ghost use Rattle.card.specs.Productions.{actionFrom, ruleFrom};
 ghost use Rattle.chart_model.specs.Build.{flatUp, keptFrom, continued, givenFrom, takenFrom, byAction, byRule, barePlaces};
 ghost use Rattle.records.specs.Room.{chartIn, footFrom, FootFits, Working, Added};
-ghost use Rattle.records.specs.Index.{Indexed};
-ghost use Rattle.steps.specs.Fits.{SpanFits, ActionFits, RuleFits};
+ghost use Rattle.records.specs.Index.{spans, cellAt, SpanFits, Indexed};
+ghost use Rattle.records.specs.Cover.{Covering, Stretch, Advanced};
+ghost use Rattle.steps.specs.Fits.{ActionFits, RuleFits};
 
 // What a step has before its dependent is known: the production and the side's position.
 pub struct Side {
@@ -57,6 +59,45 @@ fn keep_each(
     now
 }
 
+// The number of the cell in hand.
+fn own_at(z: Sizes, c: Cell) -> usize
+    requires { ⌜ (z .words ≤ 24) × (z .symbols ≤ 16) × SpanFits (z .words) (z .symbols) (c .left) (c .from) (c .to) ⌝ }
+    ensures { λ r. ⌜ (r ≡ cellAt (z .symbols) (c .left) (c .from) (c .to)) × (r < spans (z .words) * z .symbols) ⌝ }
+{
+    records::index::cell_at(z.words, z.symbols, wide(c.left), wide(c.from), wide(c.to))
+}
+
+// The same for the dependents of the cell at a place, which is passed over where the cell in hand covers it.
+fn keep_all(
+    chart: &mut [u8],
+    marks: &mut [u8],
+    covers: &mut [u16],
+    z: Sizes,
+    c: Cell,
+    s: Side,
+    at: usize,
+    from: usize,
+    to: usize,
+    count: usize,
+) -> usize
+    requires { ⌜ Working (z .words) (z .symbols) (z .room) (c .left) (c .from) (c .to) (now chart) (now marks) count × (to ≤ z .base) × (z .base ≤ count) × Stretch (z .words) (z .symbols) (chartIn (now chart) (z .base)) at from to × Covering (z .words) (z .symbols) (c .left) (c .from) (c .to) (chartIn (now chart) (z .base)) (chartIn (now chart) count) (now covers) × SpanFits (z .words) (z .symbols) (c .left) (c .from) (c .to) ⌝ }
+    ensures { λ r. ⌜ Advanced (z .words) (z .symbols) (z .room) (c .left) (c .from) (c .to) (z .base) (flatUp (keptFrom (chartIn (now (chart .entry)) (z .base)) (c .left) (c .from) (c .to) (s .production) (s .position)) from (to - from)) (now (chart .entry)) (now (marks .entry)) count (now (chart .exit)) (now (marks .exit)) (now (covers .exit)) r ⌝ }
+{
+    if to <= from {
+        return count;
+    }
+    let own = own_at(z, c);
+    if records::cover::is_covered(covers, own, at) {
+        return count;
+    }
+    let now = keep_each(chart, marks, z, c, s, from, to, count);
+    if z.room < now {
+        return now;
+    }
+    records::cover::note(covers, own, at);
+    now
+}
+
 // Give: each continuation of one dependent.
 fn continue_each(
     chart: &mut [u8],
@@ -91,10 +132,43 @@ fn continue_each(
     now
 }
 
+// The same for the continuations of the cell at a place.
+fn continue_all(
+    chart: &mut [u8],
+    marks: &mut [u8],
+    covers: &mut [u16],
+    z: Sizes,
+    c: Cell,
+    s: Side,
+    y: u16,
+    at: usize,
+    from: usize,
+    to: usize,
+    count: usize,
+) -> usize
+    requires { ⌜ Working (z .words) (z .symbols) (z .room) (c .left) (c .from) (c .to) (now chart) (now marks) count × (to ≤ z .base) × (z .base ≤ count) × Stretch (z .words) (z .symbols) (chartIn (now chart) (z .base)) at from to × Covering (z .words) (z .symbols) (c .left) (c .from) (c .to) (chartIn (now chart) (z .base)) (chartIn (now chart) count) (now covers) × SpanFits (z .words) (z .symbols) (c .left) (c .from) (c .to) ⌝ }
+    ensures { λ r. ⌜ Advanced (z .words) (z .symbols) (z .room) (c .left) (c .from) (c .to) (z .base) (flatUp (continued (chartIn (now (chart .entry)) (z .base)) (c .left) (c .from) (c .to) (s .production) (s .position) y) from (to - from)) (now (chart .entry)) (now (marks .entry)) count (now (chart .exit)) (now (marks .exit)) (now (covers .exit)) r ⌝ }
+{
+    if to <= from {
+        return count;
+    }
+    let own = own_at(z, c);
+    if records::cover::is_covered(covers, own, at) {
+        return count;
+    }
+    let now = continue_each(chart, marks, z, c, s, y, from, to, count);
+    if z.room < now {
+        return now;
+    }
+    records::cover::note(covers, own, at);
+    now
+}
+
 fn give_one(
     chart: &mut [u8],
     marks: &mut [u8],
     index: &[u16],
+    covers: &mut [u16],
     z: Sizes,
     c: Cell,
     s: Side,
@@ -102,8 +176,8 @@ fn give_one(
     y: usize,
     count: usize,
 ) -> usize
-    requires { ⌜ Working (z .words) (z .symbols) (z .room) (c .left) (c .from) (c .to) (now chart) (now marks) count × (y < z .base) × (z .base ≤ count) × (1 ≤ g) × Indexed (z .words) (z .symbols) (chartIn (now chart) (z .base)) (now index) ⌝ }
-    ensures { λ r. ⌜ Added (z .words) (z .symbols) (z .room) (c .left) (c .from) (c .to) (givenFrom (chartIn (now (chart .entry)) (z .base)) (c .left) (c .from) (c .to) (s .production) (s .position) g y) (now (chart .entry)) (now (marks .entry)) count (now (chart .exit)) (now (marks .exit)) r ⌝ }
+    requires { ⌜ Working (z .words) (z .symbols) (z .room) (c .left) (c .from) (c .to) (now chart) (now marks) count × (y < z .base) × (z .base ≤ count) × (1 ≤ g) × Indexed (z .words) (z .symbols) (chartIn (now chart) (z .base)) (now index) × Covering (z .words) (z .symbols) (c .left) (c .from) (c .to) (chartIn (now chart) (z .base)) (chartIn (now chart) count) (now covers) × SpanFits (z .words) (z .symbols) (c .left) (c .from) (c .to) ⌝ }
+    ensures { λ r. ⌜ Advanced (z .words) (z .symbols) (z .room) (c .left) (c .from) (c .to) (z .base) (givenFrom (chartIn (now (chart .entry)) (z .base)) (c .left) (c .from) (c .to) (s .production) (s .position) g y) (now (chart .entry)) (now (marks .entry)) count (now (chart .exit)) (now (marks .exit)) (now (covers .exit)) r ⌝ }
 {
     let f = records::record::foot_at(chart, y);
     if f.index != g {
@@ -111,13 +185,26 @@ fn give_one(
     }
     let at = records::index::cell_at(z.words, z.symbols, wide(f.symbol), wide(f.from), wide(f.to));
     let r = records::index::range_of(index, at, z.base);
-    continue_each(chart, marks, z, c, s, y as u16, r.from, r.to, count)
+    continue_all(
+        chart,
+        marks,
+        covers,
+        z,
+        c,
+        s,
+        y as u16,
+        at,
+        r.from,
+        r.to,
+        count,
+    )
 }
 
 fn give_each(
     chart: &mut [u8],
     marks: &mut [u8],
     index: &[u16],
+    covers: &mut [u16],
     z: Sizes,
     c: Cell,
     s: Side,
@@ -126,13 +213,13 @@ fn give_each(
     to: usize,
     count: usize,
 ) -> usize
-    requires { ⌜ Working (z .words) (z .symbols) (z .room) (c .left) (c .from) (c .to) (now chart) (now marks) count × (to ≤ z .base) × (z .base ≤ count) × (1 ≤ g) × Indexed (z .words) (z .symbols) (chartIn (now chart) (z .base)) (now index) ⌝ }
-    ensures { λ r. ⌜ Added (z .words) (z .symbols) (z .room) (c .left) (c .from) (c .to) (flatUp (givenFrom (chartIn (now (chart .entry)) (z .base)) (c .left) (c .from) (c .to) (s .production) (s .position) g) from (to - from)) (now (chart .entry)) (now (marks .entry)) count (now (chart .exit)) (now (marks .exit)) r ⌝ }
+    requires { ⌜ Working (z .words) (z .symbols) (z .room) (c .left) (c .from) (c .to) (now chart) (now marks) count × (to ≤ z .base) × (z .base ≤ count) × (1 ≤ g) × Indexed (z .words) (z .symbols) (chartIn (now chart) (z .base)) (now index) × Covering (z .words) (z .symbols) (c .left) (c .from) (c .to) (chartIn (now chart) (z .base)) (chartIn (now chart) count) (now covers) × SpanFits (z .words) (z .symbols) (c .left) (c .from) (c .to) ⌝ }
+    ensures { λ r. ⌜ Advanced (z .words) (z .symbols) (z .room) (c .left) (c .from) (c .to) (z .base) (flatUp (givenFrom (chartIn (now (chart .entry)) (z .base)) (c .left) (c .from) (c .to) (s .production) (s .position) g) from (to - from)) (now (chart .entry)) (now (marks .entry)) count (now (chart .exit)) (now (marks .exit)) (now (covers .exit)) r ⌝ }
 {
     let mut y = from;
     let mut now = count;
     while y < to {
-        now = give_one(chart, marks, index, z, c, s, g, y, now);
+        now = give_one(chart, marks, index, covers, z, c, s, g, y, now);
         if z.room < now {
             return now;
         }
@@ -179,6 +266,7 @@ fn by_action(
     chart: &mut [u8],
     marks: &mut [u8],
     index: &[u16],
+    covers: &mut [u16],
     z: Sizes,
     c: Cell,
     s: Side,
@@ -186,8 +274,8 @@ fn by_action(
     d: Element,
     count: usize,
 ) -> usize
-    requires { ⌜ Working (z .words) (z .symbols) (z .room) (c .left) (c .from) (c .to) (now chart) (now marks) count × (z .base ≤ count) × Indexed (z .words) (z .symbols) (chartIn (now chart) (z .base)) (now index) × ActionFits (actionFrom a) × SpanFits (z .words) (z .symbols) (d .symbol) (d .from) (d .to) ⌝ }
-    ensures { λ r. ⌜ Added (z .words) (z .symbols) (z .room) (c .left) (c .from) (c .to) (byAction (chartIn (now (chart .entry)) (z .base)) (actionFrom a) (d .symbol) (d .from) (d .to) (c .left) (c .from) (c .to) (s .production) (s .position)) (now (chart .entry)) (now (marks .entry)) count (now (chart .exit)) (now (marks .exit)) r ⌝ }
+    requires { ⌜ Working (z .words) (z .symbols) (z .room) (c .left) (c .from) (c .to) (now chart) (now marks) count × (z .base ≤ count) × Indexed (z .words) (z .symbols) (chartIn (now chart) (z .base)) (now index) × ActionFits (actionFrom a) × SpanFits (z .words) (z .symbols) (d .symbol) (d .from) (d .to) × Covering (z .words) (z .symbols) (c .left) (c .from) (c .to) (chartIn (now chart) (z .base)) (chartIn (now chart) count) (now covers) × SpanFits (z .words) (z .symbols) (c .left) (c .from) (c .to) ⌝ }
+    ensures { λ r. ⌜ Advanced (z .words) (z .symbols) (z .room) (c .left) (c .from) (c .to) (z .base) (byAction (chartIn (now (chart .entry)) (z .base)) (actionFrom a) (d .symbol) (d .from) (d .to) (c .left) (c .from) (c .to) (s .production) (s .position)) (now (chart .entry)) (now (marks .entry)) count (now (chart .exit)) (now (marks .exit)) (now (covers .exit)) r ⌝ }
 {
     let at = records::index::cell_at(z.words, z.symbols, wide(d.symbol), wide(d.from), wide(d.to));
     let r = records::index::range_of(index, at, z.base);
@@ -201,8 +289,8 @@ fn by_action(
             };
             take_one(chart, marks, z, c, s, f, r.from, r.to, count)
         }
-        Action::Keep => keep_each(chart, marks, z, c, s, r.from, r.to, count),
-        Action::Give(g) => give_each(chart, marks, index, z, c, s, g, r.from, r.to, count),
+        Action::Keep => keep_all(chart, marks, covers, z, c, s, at, r.from, r.to, count),
+        Action::Give(g) => give_each(chart, marks, index, covers, z, c, s, g, r.from, r.to, count),
     }
 }
 
@@ -211,6 +299,7 @@ fn with_side(
     chart: &mut [u8],
     marks: &mut [u8],
     index: &[u16],
+    covers: &mut [u16],
     z: Sizes,
     c: Cell,
     p: u8,
@@ -219,8 +308,8 @@ fn with_side(
     d: Element,
     count: usize,
 ) -> usize
-    requires { ⌜ Working (z .words) (z .symbols) (z .room) (c .left) (c .from) (c .to) (now chart) (now marks) count × (z .base ≤ count) × Indexed (z .words) (z .symbols) (chartIn (now chart) (z .base)) (now index) × ActionFits (actionFrom a) × SpanFits (z .words) (z .symbols) (d .symbol) (d .from) (d .to) × SpanFits (z .words) (z .symbols) (side .symbol) (side .from) (side .to) ⌝ }
-    ensures { λ r. ⌜ Added (z .words) (z .symbols) (z .room) (c .left) (c .from) (c .to) (concatMap (byAction (chartIn (now (chart .entry)) (z .base)) (actionFrom a) (d .symbol) (d .from) (d .to) (c .left) (c .from) (c .to) p) (barePlaces (chartIn (now (chart .entry)) (z .base)) (side .symbol) (side .from) (side .to))) (now (chart .entry)) (now (marks .entry)) count (now (chart .exit)) (now (marks .exit)) r ⌝ }
+    requires { ⌜ Working (z .words) (z .symbols) (z .room) (c .left) (c .from) (c .to) (now chart) (now marks) count × (z .base ≤ count) × Indexed (z .words) (z .symbols) (chartIn (now chart) (z .base)) (now index) × ActionFits (actionFrom a) × SpanFits (z .words) (z .symbols) (d .symbol) (d .from) (d .to) × SpanFits (z .words) (z .symbols) (side .symbol) (side .from) (side .to) × Covering (z .words) (z .symbols) (c .left) (c .from) (c .to) (chartIn (now chart) (z .base)) (chartIn (now chart) count) (now covers) × SpanFits (z .words) (z .symbols) (c .left) (c .from) (c .to) ⌝ }
+    ensures { λ r. ⌜ Advanced (z .words) (z .symbols) (z .room) (c .left) (c .from) (c .to) (z .base) (concatMap (byAction (chartIn (now (chart .entry)) (z .base)) (actionFrom a) (d .symbol) (d .from) (d .to) (c .left) (c .from) (c .to) p) (barePlaces (chartIn (now (chart .entry)) (z .base)) (side .symbol) (side .from) (side .to))) (now (chart .entry)) (now (marks .entry)) count (now (chart .exit)) (now (marks .exit)) (now (covers .exit)) r ⌝ }
 {
     let at = records::index::cell_at(
         z.words,
@@ -238,13 +327,14 @@ fn with_side(
         production: p,
         position: (bare - 1) as u16,
     };
-    by_action(chart, marks, index, z, c, s, a, d, count)
+    by_action(chart, marks, index, covers, z, c, s, a, d, count)
 }
 
 pub fn by_production(
     chart: &mut [u8],
     marks: &mut [u8],
     index: &[u16],
+    covers: &mut [u16],
     z: Sizes,
     c: Cell,
     k: u8,
@@ -252,8 +342,8 @@ pub fn by_production(
     rule: Production,
     count: usize,
 ) -> usize
-    requires { ⌜ Working (z .words) (z .symbols) (z .room) (c .left) (c .from) (c .to) (now chart) (now marks) count × (z .base ≤ count) × Indexed (z .words) (z .symbols) (chartIn (now chart) (z .base)) (now index) × RuleFits (z .symbols) (ruleFrom rule) × (c .from < k) × (k < c .to) × (c .to ≤ z .words) ⌝ }
-    ensures { λ r. ⌜ Added (z .words) (z .symbols) (z .room) (c .left) (c .from) (c .to) (byRule (chartIn (now (chart .entry)) (z .base)) (c .left) (c .from) k (c .to) p (ruleFrom rule)) (now (chart .entry)) (now (marks .entry)) count (now (chart .exit)) (now (marks .exit)) r ⌝ }
+    requires { ⌜ Working (z .words) (z .symbols) (z .room) (c .left) (c .from) (c .to) (now chart) (now marks) count × (z .base ≤ count) × Indexed (z .words) (z .symbols) (chartIn (now chart) (z .base)) (now index) × RuleFits (z .symbols) (ruleFrom rule) × (c .from < k) × (k < c .to) × (c .to ≤ z .words) × Covering (z .words) (z .symbols) (c .left) (c .from) (c .to) (chartIn (now chart) (z .base)) (chartIn (now chart) count) (now covers) × SpanFits (z .words) (z .symbols) (c .left) (c .from) (c .to) ⌝ }
+    ensures { λ r. ⌜ Advanced (z .words) (z .symbols) (z .room) (c .left) (c .from) (c .to) (z .base) (byRule (chartIn (now (chart .entry)) (z .base)) (c .left) (c .from) k (c .to) p (ruleFrom rule)) (now (chart .entry)) (now (marks .entry)) count (now (chart .exit)) (now (marks .exit)) (now (covers .exit)) r ⌝ }
 {
     match rule {
         Production::Word { left: _, word: _ } => count,
@@ -266,7 +356,7 @@ pub fn by_production(
             if left != c.left {
                 return count;
             }
-            let first = Element {
+            let lead = Element {
                 symbol: side,
                 from: c.from,
                 to: k,
@@ -276,7 +366,7 @@ pub fn by_production(
                 from: k,
                 to: c.to,
             };
-            with_side(chart, marks, index, z, c, p, first, action, d, count)
+            with_side(chart, marks, index, covers, z, c, p, lead, action, d, count)
         }
         Production::SideLast {
             left,
@@ -297,7 +387,7 @@ pub fn by_production(
                 from: c.from,
                 to: k,
             };
-            with_side(chart, marks, index, z, c, p, last, action, d, count)
+            with_side(chart, marks, index, covers, z, c, p, last, action, d, count)
         }
     }
 }

@@ -9,6 +9,7 @@ use Rattle.chart_model.specs.Build.{byWord}
 use Rattle.records.specs.Room.{chartIn}
 use Rattle.chart.specs.Tables.{packedRule, thisWord}
 use Rattle.steps.proofs.StepLaws.{added-as}
+use Rattle.steps.proofs.StepCover.{advanced-kept, advanced-as}
 use Rattle.chart.proofs.FillCells.{over-word, over-splits}
 use borrow.Author.Needs.{needs}
 use Rattle.chart.proofs.cell.by_rule.Statement.{statement}
@@ -48,18 +49,21 @@ returns : tie.Need-returns
 returns c =
     let call = c .before .before .before .before in
     let ends = c .before .before .before .before .before .before .before .before .before .before in
-    let s = c .before .before .before .before .before .before .before .before .before .before .before .before .before .before .before .before in
+    let s = c .before .before .before .before .before .before .before .before .before .before .before .before .before .before .before .before .before in
     let a = s .args in
     let from = ends .before .wide in
-    added-as
+    advanced-kept (a .z .base) (s .pre .10)
+    (added-as
     (ap (λ (r : Rule). byWord (thisWord (getD (a .words .now) (from .result) 0)) (a .c .left) (a .c .from) (a .p) r) (c .before .before .before .before .before .before .before .before .rule-at .ensures)
     ∙ over-word (chartIn (a .chart .now) (a .z .base)) (a .c .left) (a .c .from) (a .words .now) (a .z .words) (a .c .to) (from .result) (a .p)
     (packedRule (getD (a .rules .now) (a .p) 0)) (from .ensures .0) (omega (arith, s .pre)) (omega (arith, s .pre))
     (omega (arith, from .ensures, ends .wide2 .ensures, c .before .before .before .before .before .before .before .before .before .if1 .taken)))
-    (call .at-word .ensures)
+    (call .at-word .ensures))
 
 across-splits-requires : tie.Need-across-splits-requires
-across-splits-requires c κs = search needs
+across-splits-requires c κs =
+    let p = c .before .before .before .before .before .before .before .before .before .before .before .pre in
+    (p .0, p .1, p .2, p .3, p .4, p .5, p .6, p .7, p .8, p .10, p .11)
 
 same-length-3 : tie.Need-same-length-3
 same-length-3 c = search needs
@@ -67,16 +71,19 @@ same-length-3 c = search needs
 same-length-4 : tie.Need-same-length-4
 same-length-4 c = search needs
 
+same-length-5 : tie.Need-same-length-5
+same-length-5 c = search needs
+
 returns-2 : tie.Need-returns-2
 returns-2 c =
-    let call = c .before .before .before .before in
-    let ends = c .before .before .before .before .before .before .before .before in
-    let s = c .before .before .before .before .before .before .before .before .before .before .before .before .before .before in
+    let call = c .before .before .before .before .before .before in
+    let ends = c .before .before .before .before .before .before .before .before .before .before .before in
+    let s = c .before .before .before .before .before .before .before .before .before .before .before .before .before .before .before .before .before .before in
     let a = s .args in
-    added-as
+    advanced-as
     (over-splits (chartIn (a .chart .now) (a .z .base)) (a .c .left) (a .c .from) (wordIs (take (a .z .words) (a .words .now))) (a .c .to)
     (a .p) (packedRule (getD (a .rules .now) (a .p) 0)) (s .pre .4)
-    (λ q. c .before .before .before .before .before .before .before .if1 .left (omega (arith, ends .before .wide .ensures, ends .wide2 .ensures))))
+    (λ q. c .before .before .before .before .before .before .before .before .before .before .if1 .left (omega (arith, ends .before .wide .ensures, ends .wide2 .ensures))))
     (call .across-splits .ensures)
 
 pub by-rule-spec : {M : Type 1} → statement M
@@ -95,4 +102,5 @@ by-rule-spec =
     across-splits-requires
     same-length-3
     same-length-4
+    same-length-5
     returns-2)

@@ -1,6 +1,7 @@
--- `sized::build_middle` meets its contract: its tables are zeros, and long enough for 12 words and 2304 cells.
+-- `sized::build_middle` meets its contract: its tables are zeros, and long enough for 12 words and 16 nonterminals.
 use lib.Dec.{lit<, lit≤}
 use Rattle.layout.specs.Card.{nonterminalCount}
+use Rattle.chart.proofs.CardFits.{counts-fit}
 use Rattle.chart.proofs.BuiltExact.{tables-lent}
 use borrow.Author.Needs.{needs}
 use Rattle.chart.proofs.sized.build_middle.Statement.{statement}
@@ -18,13 +19,16 @@ slice-aggregate-build-with-2 c = search needs
 slice-aggregate-build-with-3 : tie.Need-slice-aggregate-build-with-3
 slice-aggregate-build-with-3 c = search needs
 
+slice-aggregate-build-with-4 : tie.Need-slice-aggregate-build-with-4
+slice-aggregate-build-with-4 c = search needs
+
 build-with-requires : tie.Need-build-with-requires
 build-with-requires c κs =
-    let s = c .before .before .before .before .before .before in (
+    let s = c .before .before .before .before .before .before .before in (
       s .pre .0,
       s .pre .1,
-      tables-lent (s .args .n) (nonterminalCount (s .args .card .now)) 12 2304 2305 6912 288 (s .pre .2) (s .pre .3) (lit< tt)
-          (lit≤ tt) (lit≤ tt),
+      tables-lent (s .args .n) (nonterminalCount (s .args .card .now)) 12 16 2305 3744 156 1248 (s .pre .2) (counts-fit (s .args .card .now) (s .pre .0 .accepted) .symbols .1)
+          (lit< tt) (lit≤ tt) (lit≤ tt) (lit≤ tt),
     )
 
 same-length : tie.Need-same-length
@@ -40,6 +44,7 @@ build-middle-spec =
     slice-aggregate-build-with
     slice-aggregate-build-with-2
     slice-aggregate-build-with-3
+    slice-aggregate-build-with-4
     build-with-requires
     same-length
     returns)

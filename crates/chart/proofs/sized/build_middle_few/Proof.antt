@@ -1,4 +1,4 @@
--- `sized::build_middle_few` meets its contract: its tables are zeros, and long enough for 12 words and 864 cells.
+-- `sized::build_middle_few` meets its contract: its tables are zeros, and long enough for 12 words and 6 nonterminals.
 use lib.Dec.{lit<, lit≤}
 use Rattle.layout.specs.Card.{nonterminalCount}
 use Rattle.chart.proofs.BuiltExact.{tables-lent}
@@ -18,13 +18,16 @@ slice-aggregate-build-with-2 c = search needs
 slice-aggregate-build-with-3 : tie.Need-slice-aggregate-build-with-3
 slice-aggregate-build-with-3 c = search needs
 
+slice-aggregate-build-with-4 : tie.Need-slice-aggregate-build-with-4
+slice-aggregate-build-with-4 c = search needs
+
 build-with-requires : tie.Need-build-with-requires
 build-with-requires c κs =
-    let s = c .before .before .before .before .before .before in (
+    let s = c .before .before .before .before .before .before .before in (
       s .pre .0,
       s .pre .1,
-      tables-lent (s .args .n) (nonterminalCount (s .args .card .now)) 12 864 865 2592 288 (s .pre .2) (s .pre .3) (lit< tt)
-          (lit≤ tt) (lit≤ tt),
+      tables-lent (s .args .n) (nonterminalCount (s .args .card .now)) 12 6 865 1404 156 468 (s .pre .2) (s .pre .3)
+          (lit< tt) (lit≤ tt) (lit≤ tt) (lit≤ tt),
     )
 
 same-length : tie.Need-same-length
@@ -40,6 +43,7 @@ build-middle-few-spec =
     slice-aggregate-build-with
     slice-aggregate-build-with-2
     slice-aggregate-build-with-3
+    slice-aggregate-build-with-4
     build-with-requires
     same-length
     returns)

@@ -21,12 +21,12 @@ of-requires c κs = search needs
 
 decode-all-requires : tie.Need-decode-all-requires
 decode-all-requires c κs =
-    let s = c .before .before .before .before .before .before in
+    let s = c .before .before .before .before .before .before .before in
     omega (arith, c .of .ensures .productions, counts-fit (s .args .card .now) (s .pre .0 .accepted) .productions)
 
 classify-requires : tie.Need-classify-requires
 classify-requires c κs =
-    let s = c .before .before .before .before .before .before .before .before in
+    let s = c .before .before .before .before .before .before .before .before .before in
     let card = s .args .card .now in
     let e = c .before .before .of .ensures in
     let fits = counts-fit card (s .pre .0 .accepted) in (
@@ -37,15 +37,15 @@ classify-requires c κs =
 
 close-all-requires : tie.Need-close-all-requires
 close-all-requires c κs =
-    let s = c .before .before .before .before .before .before .before .before .before .before .before .before .before .before .before in
+    let s = c .before .before .before .before .before .before .before .before .before .before .before .before .before .before .before .before .before in
     let card = s .args .card .now in
-    let e = c .before .before .before .before .before .before .before .before .before .of .ensures in
-    let rules = c .before .before .before .before .before .before .before .before .decode-all .result in
+    let e = c .before .before .before .before .before .before .before .before .before .before .of .ensures in
+    let rules = c .before .before .before .before .before .before .before .before .before .decode-all .result in
     let fits = counts-fit card (s .pre .0 .accepted) in (
       rw (e .nonterminals) (tables-start card (s .args .words .now) (s .args .n) (s .args .room) (s .pre .0) (s .pre .1) (s .pre .2)),
       rw (e .nonterminals)
-          (rules-fit card rules (s .pre .0 .accepted) (decoded-as card rules (e .productions) (c .before .before .before .before .before .before .before .before .decode-all .ensures))),
-      c .before .before .before .before .before .before .classify .ensures,
+          (rules-fit card rules (s .pre .0 .accepted) (decoded-as card rules (e .productions) (c .before .before .before .before .before .before .before .before .before .decode-all .ensures))),
+      c .before .before .before .before .before .before .before .classify .ensures,
       omega (arith, e .productions, fits .productions),
       s .pre .0 .given,
     )
@@ -62,14 +62,17 @@ same-length-3 c = search needs
 same-length-4 : tie.Need-same-length-4
 same-length-4 c = search needs
 
+same-length-5 : tie.Need-same-length-5
+same-length-5 c = search needs
+
 returns : tie.Need-returns
 returns c =
-    let s = c .before .before .before .before .before .before .before .before .before .before .before .before .before .before .before .before .before .before .before .before .before .before .before .before in
-    let e = c .before .before .before .before .before .before .before .before .before .before .before .before .before .before .before .before .before .before .of .ensures in
-    let rules = c .before .before .before .before .before .before .before .before .before .before .before .before .before .before .before .before .before .decode-all .result in
+    let s = c .before .before .before .before .before .before .before .before .before .before .before .before .before .before .before .before .before .before .before .before .before .before .before .before .before .before .before .before in
+    let e = c .before .before .before .before .before .before .before .before .before .before .before .before .before .before .before .before .before .before .before .before .before .of .ensures in
+    let rules = c .before .before .before .before .before .before .before .before .before .before .before .before .before .before .before .before .before .before .before .before .decode-all .result in
     closed-decoded (s .args .card .now) (s .args .words .now) (s .args .n) (s .args .room) (s .pre .0) rules
-    (decoded-as (s .args .card .now) rules (e .productions) (c .before .before .before .before .before .before .before .before .before .before .before .before .before .before .before .before .before .decode-all .ensures))
-    (closed-as (s .args .room) (s .args .n) rules (s .args .words .now) (e .productions) (e .nonterminals) (c .before .before .before .before .before .before .before .before .close-all .ensures))
+    (decoded-as (s .args .card .now) rules (e .productions) (c .before .before .before .before .before .before .before .before .before .before .before .before .before .before .before .before .before .before .before .before .decode-all .ensures))
+    (closed-as (s .args .room) (s .args .n) rules (s .args .words .now) (e .productions) (e .nonterminals) (c .before .before .before .before .before .before .before .before .before .before .close-all .ensures))
 
 pub build-with-spec : {M : Type 1} → statement M
 build-with-spec =
@@ -83,4 +86,5 @@ build-with-spec =
     same-length-2
     same-length-3
     same-length-4
+    same-length-5
     returns)

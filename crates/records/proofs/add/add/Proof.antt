@@ -6,7 +6,6 @@ use mathlib.Core.Path.{sym, _∙_}
 use lib.ListN.{length}
 use Rattle.records.specs.Room.{footFrom, markSlot}
 use Rattle.records.proofs.TableLaws.{fits-more, slot-below}
-use Rattle.records.proofs.MarkLaws.{index-fits}
 use Rattle.records.proofs.AddLaws.{added-seen, added-full, added-new}
 use borrow.Author.Needs.{needs}
 use Rattle.records.proofs.add.add.Statement.{statement}
@@ -19,9 +18,7 @@ inside s =
 
 seen-requires : tie.Need-seen-requires
 seen-requires c κs =
-    let s = c .before .before .before in
-    let a = s .args in
-    (s .pre .0 .wordsFit, index-fits (a .z .words) (a .z .symbols) (a .f .index) (a .f .symbol) (a .f .from) (a .f .to) (s .pre .1), inside s)
+    let s = c .before .before .before in (s .pre .0 .wordsFit, inside s)
 
 same-length : tie.Need-same-length
 same-length c = search needs

@@ -1,11 +1,11 @@
--- `index::cell_at` meets its contract: 16 nonterminals at each of 576 spans at most, so the sums fit.
+-- `index::cell_at` meets its contract: 16 nonterminals at each of 300 spans at most, so the sums fit.
 -- The place itself is the definition over what `span_at` gives.
 use Prim.Native.Nat.{ℕ, _+_, _*_, _≤_}
 use native.Mathlib.Nat.{mul-le-mul}
 use native.Mathlib.Omega.{arith}
 use mathlib.Core.Path.{_≡_, ap}
 use Rattle.records.specs.Index.{cellAt}
-use Rattle.records.proofs.TableLaws.{cell-below}
+use Rattle.records.proofs.TableLaws.{spans-more, cell-below}
 use borrow.Author.Needs.{needs}
 use Rattle.records.proofs.index.cell_at.Statement.{statement}
 use Rattle.records.proofs.index.cell_at.Tie as tie
@@ -14,9 +14,9 @@ span-at-requires : tie.Need-span-at-requires
 span-at-requires c κs = search needs
 
 -- The product and the sum are small.
-small : (c : tie.After-span-at) → c .span-at .result * c .before .args .symbols + c .before .args .a ≤ 9232
+small : (c : tie.After-span-at) → c .span-at .result * c .before .args .symbols + c .before .args .a ≤ 4816
 small c =
-    let span : c .span-at .result ≤ 576 = omega (arith, mul-le-mul (c .before .pre .0) (c .before .pre .0)) in
+    let span : c .span-at .result ≤ 300 = omega (arith, c .span-at .ensures .1, spans-more (c .before .args .n) 24 (c .before .pre .0)) in
     omega (arith, mul-le-mul span (c .before .pre .1))
 
 mul-result : tie.Need-mul-result

@@ -1,14 +1,11 @@
--- `marks::seen` meets its contract: the power that the list has at the index is the foot's bit, and the byte is the foot's.
+-- `marks::seen` meets its contract: the power of the index is the foot's bit, and the byte is the foot's.
 use Rattle.records.proofs.MarkLaws.{mark-seen}
 use borrow.Author.Needs.{needs}
 use Rattle.records.proofs.marks.seen.Statement.{statement}
 use Rattle.records.proofs.marks.seen.Tie as tie
 
-wide-requires : tie.Need-wide-requires
-wide-requires c κs = search needs
-
-array-read-bit : tie.Need-array-read-bit
-array-read-bit c = search needs
+bit-of-requires : tie.Need-bit-of-requires
+bit-of-requires c κs = search needs
 
 slot-requires : tie.Need-slot-requires
 slot-requires c κs = search needs
@@ -20,9 +17,9 @@ returns : tie.Need-returns
 returns c =
     let s = c .before .before .before .before in
     let a = s .args in
-    mark-seen (a .n) (a .marks .now) (a .f .index) (a .f .symbol) (a .f .from) (a .f .to) (c .before .slot .ensures) (c .before .before .wide .ensures .0) (s .pre .1)
+    mark-seen (a .n) (a .marks .now) (a .f .index) (a .f .symbol) (a .f .from) (a .f .to) (c .before .slot .ensures) (c .before .before .bit-of .ensures)
 
 pub seen-spec : {M : Type 1} → statement M
 seen-spec =
     tie.close
-    (tie.spec wide-requires array-read-bit slot-requires shared-slice-read-result returns)
+    (tie.spec bit-of-requires slot-requires shared-slice-read-result returns)

@@ -1,12 +1,13 @@
 -- `with_side` adds what the action gives with the side's bare item, whose position the table has: there is at most one.
 use native.Mathlib.Omega.{arith}
 use mathlib.Core.Path.{_≡_, sym}
-use borrow.Author.Needs.{needs}
 use Rattle.chart_model.specs.Build.{barePlaces}
 use Rattle.records.specs.Room.{chartIn}
 use Rattle.records.specs.Index.{bareIn}
 use Rattle.steps.proofs.StepLaws.{added-none, added-as}
 use Rattle.steps.proofs.StepCandidates.{bare-below, range-bares, no-bare, one-bare}
+use Rattle.steps.proofs.StepCover.{advanced-kept, advanced-as}
+use borrow.Author.Needs.{needs}
 use Rattle.steps.proofs.step.with_side.Statement.{statement}
 use Rattle.steps.proofs.step.with_side.Tie as tie
 
@@ -26,24 +27,24 @@ range-of-requires : tie.Need-range-of-requires
 range-of-requires c κs = search needs
 
 -- What was read from the table: the position of the side's bare item.
-found : (c : tie.After-range-of) → let a = c .before .before .before .before .before .before .before .before .args in
+found : (c : tie.After-range-of) → let a = c .before .before .before .before .before .before .before .before .before .args in
     barePlaces (chartIn (a .chart .now) (a .z .base)) (a .side .symbol) (a .side .from) (a .side .to) ≡ bareIn (c .range-of .result .bare)
 found c =
-    let s = c .before .before .before .before .before .before .before .before in
+    let s = c .before .before .before .before .before .before .before .before .before in
     range-bares (s .args .chart .now) (s .args .z .base) (s .pre .2) (s .pre .5) (c .before .before .before .before .wide .ensures .0)
     (c .before .before .before .wide2 .ensures .0) (c .before .before .wide3 .ensures .0) (c .before .cell-at .ensures .0) (c .range-of .ensures)
 
 returns : tie.Need-returns
 returns c =
-    let w = c .before .before .before .before .before .before .before .before .before .pre .0 in
-    added-as (sym (no-bare _ _ (found (c .before)) (c .if1 .taken))) (added-none w)
+    let q = c .before .before .before .before .before .before .before .before .before .before .pre in
+    advanced-kept _ (q .6) (added-as (sym (no-bare _ _ (found (c .before)) (c .if1 .taken))) (added-none (q .0)))
 
-sub-t15 : tie.Need-sub-t15
-sub-t15 c = search needs
+sub-t16 : tie.Need-sub-t16
+sub-t16 c = search needs
 
-cast-t19 : tie.Need-cast-t19
-cast-t19 c =
-    let s = c .before .before .before .before .before .before .before .before .before in
+cast-t20 : tie.Need-cast-t20
+cast-t20 c =
+    let s = c .before .before .before .before .before .before .before .before .before .before in
     let h = bare-below (s .args .index .now) (c .before .before .cell-at .result) (s .args .z .base) (c .before .range-of .ensures) in
     omega (arith, h, s .pre .1, s .pre .0 .countFits, s .pre .0 .roomSmall)
 
@@ -56,11 +57,12 @@ same-length c = search needs
 same-length-2 : tie.Need-same-length-2
 same-length-2 c = search needs
 
+same-length-3 : tie.Need-same-length-3
+same-length-3 c = search needs
+
 returns-2 : tie.Need-returns-2
 returns-2 c =
-    let t = found (c .before .before .before .before .before .before .before .before) in
-    let d = c .before .before .before .before .before .before .before .if1 .left in
-    added-as (sym (one-bare _ _ t d)) (c .before .before .before .before .by-action .ensures)
+    advanced-as (sym (one-bare _ _ (found (c .before .before .before .before .before .before .before .before .before .before .before)) (c .before .before .before .before .before .before .before .before .before .before .if1 .left))) (c .before .before .before .before .before .before .by-action .ensures)
 
 pub with-side-spec : {M : Type 1} → statement M
 with-side-spec =
@@ -72,9 +74,10 @@ with-side-spec =
     cell-at-requires
     range-of-requires
     returns
-    sub-t15
-    cast-t19
+    sub-t16
+    cast-t20
     by-action-requires
     same-length
     same-length-2
+    same-length-3
     returns-2)
