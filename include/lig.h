@@ -251,17 +251,17 @@ uint64_t lig_name(const uint8_t *card, size_t card_length, size_t word);
  *
  *     line of        1 to 6 words   7 to 12 words   13 to 24 words
  *     lig_card_check     120             120             120
- *     lig_read        76,648          78,624          83,424
+ *     lig_read        55,608          57,328          62,128
  *     lig_check          968             968             968
  *     lig_pairs        1,048           1,048           1,048
  *     lig_name           136             136             136
  *
- * lig_read takes 73,832 of them at once, for every line, also for one that it refuses. The figures
+ * lig_read takes 52,536 of them at once, for every line, also for one that it refuses. The figures
  * below have at least 128 bytes to spare, as much as a function may use below the stack pointer.
  * Interrupts that run on the same stack come on top.
  */
 #define LIG_STACK_CARD_CHECK 256
-#define LIG_STACK_READ 83712
+#define LIG_STACK_READ 62464
 #define LIG_STACK_CHECK 1280
 #define LIG_STACK_PAIRS 1280
 #define LIG_STACK_NAME 512
