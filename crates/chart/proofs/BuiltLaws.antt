@@ -1,5 +1,4 @@
--- The builder's start and end. Zeros are written one after the other and rules decoded one after the other; tables of zeros stand for a
--- chart of no records; and the model's chart, which the room then holds, is exact.
+-- The builder's start: rules are packed and decoded one after the other.
 use Prim.Native.Nat.{ℕ, zero, suc, _+_, _*_, _/_, _%_, _≤_, _<_}
 use native.Mathlib.Omega.{arith}
 use native.Mathlib.Numerals.{add-one}
@@ -7,7 +6,7 @@ use mathlib.Core.Path.{_≡_, refl, sym, _∙_, ap, ap₂, subst}
 use mathlib.Core.List.{List, [], _∷_, _++_, map}
 use mathlib.Core.Option.{Option, none, some}
 use lib.ListN.{length, take, set, replicate, getElem?, length-set}
-use lib.Seq.{take-suc-set, take-length}
+use lib.Seq.{take-suc-set}
 use Rattle.grammar.specs.Rewriting.{Rule, Lexical}
 use Rattle.grammar.proofs.StandsLaws.{none-some, some-same}
 use Rattle.layout.specs.Bytes.{counted}
@@ -18,21 +17,6 @@ use Rattle.chart.specs.Tables.{packedRule, rulesFrom, grammarIn}
 use Rattle.chart.specs.Built.{DecodedAll}
 use Rattle.records.proofs.RoomLaws.{counted-last}
 use Rattle.chart.proofs.SetLaws.{rules-length}
-
--- One zero more.
-zeros-last : (k : ℕ) → _≡_ {A = List ℕ} (replicate k 0 ++ (0 ∷ [])) (replicate (suc k) 0)
-zeros-last zero = refl
-zeros-last (suc k) = ap (λ (l : List ℕ). 0 ∷ l) (zeros-last k)
-
-pub zeros-more : (room : List ℕ) (k : ℕ) → k < length room → take k room ≡ replicate k 0
-    → take (k + 1) (set room k 0) ≡ replicate (k + 1) 0
-zeros-more room k h e = rw add-one (take-suc-set room k 0 h ∙ (ap (λ (l : List ℕ). l ++ (0 ∷ [])) e ∙ zeros-last k))
-
-pub zeros-all : (room old : List ℕ) (k : ℕ) → k ≤ length room → length room ≤ k → length room ≡ length old → take k room ≡ replicate k 0
-    → room ≡ replicate (length old) 0
-zeros-all room old k a b same e =
-    let all : k ≡ length room = omega arith in
-    sym (take-length room) ∙ (ap (λ (m : ℕ). take m room) (sym all) ∙ (e ∙ ap (λ (m : ℕ). replicate m 0) (all ∙ same)))
 
 -- One rule more. Each number of a packed production is read back as it was.
 lowest-byte : (x y : ℕ) → x < 256 → (x + 256 * y) % 256 ≡ x

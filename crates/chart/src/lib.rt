@@ -1,7 +1,6 @@
 // The chart builder (document 01, "The chart"): the derivable items of an accepted line, each once, in a lent room.
 mod build;
 mod cell;
-mod room;
 mod rules;
 mod sets;
 mod sized;
@@ -21,10 +20,10 @@ pub fn build_chart(card: &[u8], words: &[u8; 24], n: usize, chart: &mut [u8]) ->
     requires { ⌜ Buildable (now card) (now words) n ⌝ }
     ensures { λ r. ⌜ BuiltRoom (now (card .entry)) (take n (now (words .entry))) n r (now (chart .entry)) (now (chart .exit)) ⌝ }
 {
-    let holds = room::capacity(chart.len());
+    let holds = records::room::capacity(chart.len());
     let count = sized::build_in(card, words, n, holds, chart);
     if holds < count {
-        room::clear(chart);
+        records::room::clear(chart);
         return Built::TooMany;
     }
     Built::Chart(count)

@@ -21,10 +21,10 @@ use Rattle.layout.proofs.CardLaws.{card-one-sided}
 use Rattle.layout.proofs.Reading.{count-numbers}
 use Rattle.line.specs.Accepted.{Accepts, acceptedCount, acceptedWords}
 use Rattle.line.specs.declared.Accepted.{Accepted}
-use Rattle.plan.specs.Goals.{goalsStart, replayFrom}
+use Rattle.goals.specs.Goals.{goalsStart, replayFrom}
 use Rattle.plan.specs.Paired.{Pairs}
 use Rattle.plan.specs.declared.Paired.{Paired}
-use Rattle.plan.proofs.GoalsTest.{goals-pass}
+use Rattle.goals.proofs.GoalsTest.{goals-pass}
 use Rattle.layout.proofs.Packing.{input-words}
 
 module _ (card line : List ℕ) (r : Accepted) (x : Accepts card line r) where

@@ -1,9 +1,3 @@
-pub mod GoalsTest
-pub mod GoalsTiled
-pub mod FitsLaws
-pub mod ShownLaws
-pub mod AdvanceLaws
-pub mod ReplayLaws
 pub mod SettleLaws
 pub mod Paced
 pub mod Passed

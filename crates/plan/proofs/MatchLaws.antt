@@ -17,12 +17,12 @@ use Rattle.grammar.proofs.PairsLaws.{takesAction, takesRule, takesOf, matchedAc
 use Rattle.layout.specs.Card.{production, productionCount, grammarOf}
 use Rattle.layout.specs.Steps.{stepsOf, planBytes, pairBytes, pairsBytes}
 use Rattle.layout.specs.Answers.{planPairs, pairsAfter}
-use Rattle.plan.specs.Shown.{tops, actionOf, stepFrom, StepAt}
+use Rattle.goals.specs.Shown.{tops, actionOf, stepFrom, StepAt}
 use Rattle.plan.specs.Matching.{CanGive, RoomToMatch, Matches, Settled}
 use Rattle.plan.specs.declared.matching.Matching.{Matching}
-use Rattle.plan.specs.declared.replay.Step.{Step}
-use Rattle.plan.proofs.ShownLaws.{tops-length}
-use Rattle.plan.proofs.AdvanceLaws.{rule-there, rule-missing}
+use Rattle.goals.specs.declared.replay.Step.{Step}
+use Rattle.goals.proofs.ShownLaws.{tops-length}
+use Rattle.goals.proofs.AdvanceLaws.{rule-there, rule-missing}
 use Rattle.plan.proofs.Paced.{Paced, pacedNone, paced, Waits, takes-rule, matched-rule}
 use Rattle.plan.proofs.Passed.{planOf, Passed, bytes-length, suffix-step, paced-drop, matched-drop}
 

@@ -15,10 +15,10 @@ use Rattle.grammar.specs.Plan.{PlanStep, planStep, numberOf}
 use Rattle.grammar.specs.Pairs.{Pair, sideStart}
 use Rattle.grammar.proofs.StandsLaws.{getElem-stands}
 use Rattle.grammar.proofs.PairsLaws.{takesAction, takesRule, takesOf, matchedAction, matchedRule, matched, oneGive}
-use Rattle.plan.specs.Goals.{Goal, goal, Standing, stuck, standing, topIndex, actionFits, stackAfter, fits, replaced, turnTo, turn, next, goalsRun, Tiled}
-use Rattle.plan.specs.Shown.{indicesOf, actionOf}
-use Rattle.plan.proofs.GoalsTest.{both, no-depth, word-fits, pair-fits}
-use Rattle.plan.proofs.GoalsTiled.{TiledAt, tiled-few, next-tiled}
+use Rattle.goals.specs.Goals.{Goal, goal, Standing, stuck, standing, topIndex, actionFits, stackAfter, fits, replaced, turnTo, turn, next, goalsRun, Tiled}
+use Rattle.goals.specs.Shown.{indicesOf, actionOf}
+use Rattle.goals.proofs.GoalsTest.{both, no-depth, word-fits, pair-fits}
+use Rattle.goals.proofs.GoalsTiled.{TiledAt, tiled-few, next-tiled}
 
 -- A take waits where the action gives.
 abbrev pub Waits : Action → List ℕ → Type 0

@@ -24,12 +24,12 @@ use Rattle.layout.specs.Answers.{inputNumber, wordsIn, lineTest, checkNumber, p
 use Rattle.layout.proofs.CardLaws.{card-one-sided}
 use Rattle.layout.proofs.Checking.{Derives, check-sound, steps-bytes}
 use Rattle.layout.proofs.Packing.{input-words}
-use Rattle.plan.specs.Goals.{goalsStart}
-use Rattle.plan.specs.Shown.{stepFrom, StepAt}
-use Rattle.plan.specs.declared.replay.Step.{Step}
-use Rattle.plan.proofs.GoalsTest.{goals-complete}
-use Rattle.plan.proofs.GoalsTiled.{tiled-start}
-use Rattle.plan.proofs.ReplayLaws.{steps-from}
+use Rattle.goals.specs.Goals.{goalsStart}
+use Rattle.goals.specs.Shown.{stepFrom, StepAt}
+use Rattle.goals.specs.declared.replay.Step.{Step}
+use Rattle.goals.proofs.GoalsTest.{goals-complete}
+use Rattle.goals.proofs.GoalsTiled.{tiled-start}
+use Rattle.goals.proofs.ReplayLaws.{steps-from}
 use Rattle.plan.proofs.Paced.{Paced, pacedNone, paced, run-paced}
 
 -- The steps of a plan's bytes.

@@ -14,9 +14,9 @@ use Rattle.layout.specs.Card.{grammarOf}
 use Rattle.layout.specs.Steps.{planBytes, stepsOf, planSteps, planRoom}
 use Rattle.layout.specs.Answers.{wordsIn, checkNumber, planPairs, HasDerivation}
 use Rattle.layout.proofs.Checking.{Derives, check-sound, steps-bytes, derives-length, derives-derivation}
-use Rattle.plan.specs.Goals.{Goal, Standing, stuck, standing, next, goalsStart, Tiled}
-use Rattle.plan.specs.Shown.{indicesOf}
-use Rattle.plan.proofs.GoalsTiled.{TiledAt, tiled-start, tiled-few, next-tiled}
+use Rattle.goals.specs.Goals.{Goal, Standing, stuck, standing, next, goalsStart, Tiled}
+use Rattle.goals.specs.Shown.{indicesOf}
+use Rattle.goals.proofs.GoalsTiled.{TiledAt, tiled-start, tiled-few, next-tiled}
 use Rattle.plan.proofs.Passed.{bytes-length}
 
 module _ (card line bytes : List ℕ) (passes : checkNumber card line bytes ≡ 0) where

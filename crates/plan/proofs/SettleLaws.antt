@@ -11,10 +11,10 @@ use Rattle.grammar.specs.Rewriting.{Action, Take, Keep, Give}
 use Rattle.grammar.specs.Pairs.{Pair, pair}
 use Rattle.grammar.proofs.PairsLaws.{topOf, takesAction, matchedAction}
 use Rattle.layout.specs.Steps.{pairsBytes}
-use Rattle.plan.specs.Shown.{tops, entries}
+use Rattle.goals.specs.Shown.{tops, entries}
 use Rattle.plan.specs.Matching.{Matches, Settled}
 use Rattle.plan.specs.declared.matching.Matching.{Matching}
-use Rattle.plan.proofs.ShownLaws.{tops-put}
+use Rattle.goals.proofs.ShownLaws.{tops-put}
 
 -- Two stores behind a front.
 set-pair : (front rest : List ℕ) (x y a b : ℕ) → set (set (front ++ (x ∷ y ∷ rest)) (length front) a) (suc (length front)) b ≡ front ++ (a ∷ b ∷ rest)

@@ -1,4 +1,2 @@
-pub mod Goals
-pub mod Shown
 pub mod Matching
 pub mod Paired

@@ -9,7 +9,7 @@ use Rattle.grammar.specs.Pairs.{Pair}
 use Rattle.grammar.proofs.PairsLaws.{takesAction, matchedAction}
 use Rattle.layout.specs.Steps.{pairsBytes}
 use Rattle.layout.specs.Answers.{checkNumber}
-use Rattle.plan.specs.Shown.{tops, entries}
+use Rattle.goals.specs.Shown.{tops, entries}
 use Rattle.plan.specs.declared.matching.Matching.{Matching}
 
 -- The plan passes Check for some line.

@@ -1,6 +1,5 @@
 // Check and Pairs (document 01, "Check, pairs, name"): a plan is replayed, and its gives are matched with their takes.
 mod matching;
-mod replay;
 
 ghost use mathlib.Core.Path.{_≡_};
 ghost use lib.ListN.{length};
@@ -17,7 +16,7 @@ pub fn check(card: &[u8], line: &[u8], plan: &[u8]) -> u64
         return number;
     }
     let words = accepted.words;
-    if !replay::replay(card, &words, accepted.count, plan) {
+    if !goals::replay::replay(card, &words, accepted.count, plan) {
         return 34;
     }
     0

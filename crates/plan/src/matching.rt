@@ -1,8 +1,8 @@
 // The pairs of a plan that passes: each give with the take that removes its index (document 01, "Check, pairs, name").
-use crate::replay::Step;
-use crate::replay::step_at;
 use card::Action;
 use card::Production;
+use goals::replay::Step;
+use goals::replay::step_at;
 ghost use mathlib.Core.Path.{_≡_};
 ghost use Prim.Native.Nat.{_+_, _*_, _≤_};
 ghost use lib.ListN.{length};
@@ -11,7 +11,7 @@ ghost use Rattle.grammar.proofs.PairsLaws.{oneGive};
 ghost use Rattle.layout.specs.Steps.{stepsOf};
 ghost use Rattle.layout.specs.Answers.{planPairs, pairsAfter};
 ghost use Rattle.card.specs.Productions.{actionFrom, ruleFrom};
-ghost use Rattle.plan.specs.Shown.{actionOf};
+ghost use Rattle.goals.specs.Shown.{actionOf};
 ghost use Rattle.plan.specs.Matching as model;
 
 // How many takes wait for their give, and how many pairs are still to be written.

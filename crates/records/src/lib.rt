@@ -4,3 +4,4 @@ pub mod cover;
 pub mod index;
 pub mod marks;
 pub mod record;
+pub mod room;

@@ -6,8 +6,8 @@ use Rattle.chart.proofs.build_chart.Statement.{statement}
 use Rattle.chart.proofs.build_chart.Tie as tie
 use Rattle.chart.proofs.build_chart.Reads as reads
 use Rattle.chart.proofs.build_chart.Lts as lts
-use Rattle.chart.proofs.room.capacity.Reads as capacity-reads
-use Rattle.chart.proofs.room.clear.Reads as clear-reads
+use Rattle.records.proofs.room.capacity.Reads as capacity-reads
+use Rattle.records.proofs.room.clear.Reads as clear-reads
 use Rattle.chart.proofs.sized.build_in.Reads as build-in-reads
 
 -- src/lib.rt:29:9

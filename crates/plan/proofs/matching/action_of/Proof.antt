@@ -4,7 +4,7 @@ use mathlib.Core.Path.{sym, ap}
 use borrow.Author.Needs.{needs}
 use Rattle.card.specs.Productions.{ruleFrom}
 use Rattle.card.specs.declared.Production.{Production}
-use Rattle.plan.specs.Shown.{actionOf}
+use Rattle.goals.specs.Shown.{actionOf}
 use Rattle.plan.proofs.matching.action_of.Statement.{statement}
 use Rattle.plan.proofs.matching.action_of.Tie as tie
 

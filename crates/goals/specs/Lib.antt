@@ -1,0 +1,2 @@
+pub mod Goals
+pub mod Shown
