@@ -23,11 +23,10 @@ use Rattle.card.specs.declared.Action.{Action as Decoded}
 use Rattle.card.specs.declared.Production.{Production}
 use Rattle.card.specs.declared.Production.the-variants.{Word, SideFirst, SideLast}
 use Rattle.unfold.specs.declared.Step.{Step}
-use Rattle.unfold.specs.declared.Pending.{Pending}
 use Rattle.unfold.specs.declared.Next.{Next}
-use Rattle.unfold.specs.Spine.{nameAt, fromAt, toAt, spanAt, StepOf, waiting, GoesOn, Wrote, Ready, Asked, Unfolded}
+use Rattle.unfold.specs.Spine.{nameAt, fromAt, toAt, spanAt, StepOf, waiting, Fits, GoesOn, Wrote, Ready, Asked, Unfolded}
 use Rattle.unfold.proofs.Writing.{plan-bytes, plan-join, wrote-length, wrote-then}
-use Rattle.unfold.proofs.Waiting.{waiting-length}
+use Rattle.unfold.proofs.Waiting.{waiting-length, none-waiting}
 use Rattle.unfold.proofs.Places.{table-stands}
 use Rattle.unfold.proofs.Turns.{Part, Parts, Turn, ofWord, ofFirst, ofLast, step-yields, turn}
 
@@ -54,10 +53,24 @@ module _ {card words chart : List ℕ} {count m : ℕ} {s pending : List ℕ} (r
   turn-at e₀ e₁ e₂ e₃ = rw (e₀, e₁, e₂, e₃) (turn ready)
 
 -- A give has a place for its continuation.
-pub depth-fits : {card words chart : List ℕ} {count m : ℕ} {s : List ℕ} (pending : Pending) {st : Step}
-    → Ready card words chart count m s (waiting pending) → StepOf chart m st → spanAt chart m ≤ 24
-    → (pending .depth < 24) × (st .continuation < 65536)
-depth-fits pending ready read h = (omega (arith, depth-below ready, waiting-length (pending .items) (pending .depth)), read .narrow)
+pub depth-fits : {card chart plan : List ℕ} {m at : ℕ} (stack : List ℕ) (base depth : ℕ) {st : Step} → base ≤ depth
+    → Asked card chart m (waiting stack base depth) stack base plan at → StepOf chart m st → Fits stack base depth st
+depth-fits stack base depth h a read =
+    record {
+      whole = a .whole;
+      above = h;
+      free = omega (arith, depth-below (a .ready), waiting-length stack base depth, a .short);
+      narrow = read .narrow;
+    }
+
+-- A side is a spine with nothing pending.
+pub side-ready : {card words chart : List ℕ} {count m : ℕ} {s : List ℕ} (stack : List ℕ) (depth : ℕ)
+    → Ready card words chart count m s [] → Ready card words chart count m s (waiting stack depth depth)
+side-ready stack depth ready = rw (none-waiting stack depth) ready
+
+pub side-asked : {card chart plan : List ℕ} {m at : ℕ} (stack : List ℕ) (depth : ℕ) → Asked card chart m [] stack depth plan at
+    → Asked card chart m (waiting stack depth depth) stack depth plan at
+side-asked stack depth asked = rw (none-waiting stack depth) asked
 
 -- What a record comes to where its rule is known.
 module _ {card words chart : List ℕ} {count p A i j x y z : ℕ} {s pending : List ℕ} where
@@ -75,23 +88,23 @@ module _ {card words chart : List ℕ} {count p A i j x y z : ℕ} {s pending : 
       → rest ≡ onward a y z pending .pending → (t : List ℕ) × Parts card words chart count p A i j s pos t rest x [] []
   last-of a (ofLast t h) e f = (t, rw (e, f) h)
 
--- The same as the code has it: the step st, the decoded rule, and where the spine goes on.
-abbrev pub FirstParts : List ℕ → List ℕ → List ℕ → ℕ → ℕ → List ℕ → Step → Next → Type 0
-FirstParts card words chart count m s st o =
+-- The same as the code has it: the step st, the decoded rule, where the spine goes on, and what is pending then.
+abbrev pub FirstParts : List ℕ → List ℕ → List ℕ → ℕ → ℕ → List ℕ → Step → ℕ → List ℕ → Type 0
+FirstParts card words chart count m s st position rest =
     (t : List ℕ) × Parts card words chart count (byteAt chart (16 * m + 7)) (nameAt chart m) (fromAt chart m) (toAt chart m) s
-    (st .side) [] [] (o .position) t (waiting (o .pending))
+    (st .side) [] [] position t rest
 
-abbrev pub LastParts : List ℕ → List ℕ → List ℕ → ℕ → ℕ → List ℕ → Step → Next → Type 0
-LastParts card words chart count m s st o =
+abbrev pub LastParts : List ℕ → List ℕ → List ℕ → ℕ → ℕ → List ℕ → Step → ℕ → List ℕ → Type 0
+LastParts card words chart count m s st position rest =
     (t : List ℕ) × Parts card words chart count (byteAt chart (16 * m + 7)) (nameAt chart m) (fromAt chart m) (toAt chart m) s
-    (o .position) t (waiting (o .pending)) (st .side) [] []
+    position t rest (st .side) [] []
 
-module _ {card words chart : List ℕ} {count m : ℕ} {s : List ℕ} (pending : Pending) (st : Step) (rule : Production)
-    (ready : Ready card words chart count m s (waiting pending)) (read : StepOf chart m st)
+module _ {card words chart : List ℕ} {count m : ℕ} {s : List ℕ} (stack : List ℕ) (base depth : ℕ) (st : Step) (rule : Production)
+    (ready : Ready card words chart count m s (waiting stack base depth)) (read : StepOf chart m st)
     (decoded : ruleFrom rule ≡ production card (st .production)) where
   ruled : (r : Production) → rule ≡ r
       → Turn card words chart count (byteAt chart (16 * m + 7)) (nameAt chart m) (fromAt chart m) (toAt chart m) (st .side)
-      (st .dependent) (st .continuation) s (waiting pending) (ruleFrom r)
+      (st .dependent) (st .continuation) s (waiting stack base depth) (ruleFrom r)
   ruled r e =
       subst (Turn card words chart count _ _ _ _ _ _ _ _ _) (sym decoded ∙ ap ruleFrom e)
       (turn-at ready (read .production) (read .side) (read .dependent) (read .continuation))
@@ -105,12 +118,13 @@ module _ {card words chart : List ℕ} {count m : ℕ} {s : List ℕ} (pending :
       subst (λ (k : PlanStep). Yields (grammarOf card) (Holds (wordIs words)) (nonterminal (nameAt chart m) s ∷ []) (fromAt chart m)
       (toAt chart m) (k ∷ [])) (sym same) (word-of (ruled (Word A′ w) e))
 
-  pub first-turn : {A′ B D : ℕ} {a : Decoded} {o : Next} → rule ≡ SideFirst A′ a B D → GoesOn a st pending o
-      → FirstParts card words chart count m s st o
-  first-turn {A′} {B} {D} {a} e goes = first-of (actionFrom a) (ruled (SideFirst A′ a B D) e) (goes .position) (goes .rest)
+  pub first-turn : {A′ B D : ℕ} {a : Decoded} {new rest : List ℕ} {o : Next} → rule ≡ SideFirst A′ a B D
+      → GoesOn a st stack base depth new o → rest ≡ waiting new base (o .depth)
+      → FirstParts card words chart count m s st (o .position) rest
+  first-turn {A′} {B} {D} {a} e goes f = first-of (actionFrom a) (ruled (SideFirst A′ a B D) e) (goes .position) (f ∙ goes .rest)
 
-  pub last-turn : {A′ B D : ℕ} {a : Decoded} {o : Next} → rule ≡ SideLast A′ a D B → GoesOn a st pending o
-      → LastParts card words chart count m s st o
+  pub last-turn : {A′ B D : ℕ} {a : Decoded} {new : List ℕ} {o : Next} → rule ≡ SideLast A′ a D B
+      → GoesOn a st stack base depth new o → LastParts card words chart count m s st (o .position) (waiting new base (o .depth))
   last-turn {A′} {B} {D} {a} e goes = last-of (actionFrom a) (ruled (SideLast A′ a D B) e) (goes .position) (goes .rest)
 
 -- A plan takes the room that its stretch gives it.
@@ -137,7 +151,8 @@ part-yields : {card words chart : List ℕ} {count x A i j : ℕ} {s pending : L
 part-yields f y = rw (f .name, f .from, f .to) at y
 
 -- The room for a step, since a record has some word.
-pub step-room : {card chart pending plan : List ℕ} {m at : ℕ} → Asked card chart m pending plan at → at + 4 ≤ length plan
+pub step-room : {card chart pending stack plan : List ℕ} {m base at : ℕ} → Asked card chart m pending stack base plan at
+    → at + 4 ≤ length plan
 step-room a = omega (arith, depth-below (a .ready), a .room)
 
 module _ {card words chart : List ℕ} {count p A i j x y : ℕ} {s s₁ p₁ s₂ p₂ : List ℕ}
@@ -151,28 +166,40 @@ module _ {card words chart : List ℕ} {count p A i j x y : ℕ} {s s₁ p₁ s�
   pub meeting : toAt chart x ≡ fromAt chart y
   meeting = parts .first .to ∙ sym (parts .second .from)
 
+  -- Above what is pending for the second part there is a place for each word of the first.
+  pub first-above : {base depth : ℕ} (stack : List ℕ) → p₂ ≡ waiting stack base depth → base ≤ depth → base + (j - i) ≤ 24
+      → depth + spanAt chart x ≤ 24
+  first-above {base} {depth} stack e h short =
+      let f = parts .first in
+      let g = parts .second in
+      let d = depth-below (parts .second .ready) in
+      omega (arith, ap length e, waiting-length stack base depth)
+
   -- After the step the first part has its room, and after the first part the second has.
-  module _ {old mid : List ℕ} {at rest p′ i′ k′ j′ : ℕ} (short : j - i ≤ 24) (room : at + planRoom (j - i) ≤ length old)
-      (w : Wrote old at (stepBytes (planStep p′ i′ k′ j′)) mid rest) where
-    pub first-asked : Asked card chart x p₁ mid rest
-    first-asked = let f = parts .first in let g = parts .second in
+  module _ {old mid stack : List ℕ} {at rest base p′ i′ k′ j′ : ℕ} (room : at + planRoom (j - i) ≤ length old)
+      (w : Wrote old at (stepBytes (planStep p′ i′ k′ j′)) mid rest) (whole : length stack ≡ 24) where
+    pub first-asked : base + spanAt chart x ≤ 24 → Asked card chart x p₁ stack base mid rest
+    first-asked short = let f = parts .first in let g = parts .second in
         record {
           words = words;
           count = count;
-          stack = s₁;
+          indices = s₁;
           ready = parts .first .ready;
-          short = omega (arith, first-shorter);
+          whole = whole;
+          short = short;
           room = omega (arith, w .ends, wrote-length w);
         }
 
-    pub second-asked : {more : List ℕ} {next : ℕ}
-        → Unfolded card words (nameAt chart x) (fromAt chart x) (toAt chart x) s₁ mid rest more next → Asked card chart y p₂ more next
-    second-asked u = let f = parts .first in let g = parts .second in
+    pub second-asked : {more : List ℕ} {next : ℕ} → base + (j - i) ≤ 24
+        → Unfolded card words (nameAt chart x) (fromAt chart x) (toAt chart x) s₁ mid rest more next
+        → Asked card chart y p₂ stack base more next
+    second-asked short u = let f = parts .first in let g = parts .second in
         record {
           words = words;
           count = count;
-          stack = s₂;
+          indices = s₂;
           ready = parts .second .ready;
+          whole = whole;
           short = omega (arith, second-shorter);
           room = omega (arith, w .ends, wrote-length w, wrote-length (u .wrote), unfolded-next u);
         }

@@ -1,67 +1,114 @@
--- What is pending is read from the array's top down, so a store at the depth is under no entry below it.
--- By induction on the depth.
+-- What is pending is read from the stack's top down to base, so a store at the depth is under no entry below it, and what changes only
+-- from the depth on leaves it. By induction on how many are pending.
 use Prim.Native.Nat.{ℕ, zero, suc, _+_, _-_, _≤_, _<_}
+use native.Mathlib.Nat.{le-refl, sub-self}
 use native.Mathlib.Omega.{arith}
-use native.Mathlib.Numerals.{add-one}
-use mathlib.Core.Path.{_≡_, refl, sym, ap, subst}
-use mathlib.Core.List.{List, _∷_}
-use lib.ListN.{length, getD, set}
-use lib.Seq.{getD-set-same, getD-set-other}
+use mathlib.Core.Path.{_≡_, refl, sym, _∙_, ap, subst}
+use mathlib.Core.List.{List, [], _∷_}
+use lib.ListN.{length, getD, set, take, length-set}
+use lib.Seq.{getD-set-same, getD-take, take-set-le, take-take}
 use Rattle.grammar.specs.Rewriting as grammar
 use Rattle.grammar.specs.Chart.{onward}
 use Rattle.card.specs.declared.Action.{Action}
 use Rattle.card.specs.declared.Action.the-variants.{Take, Keep, Give}
 use Rattle.unfold.specs.declared.Step.{Step}
-use Rattle.unfold.specs.declared.Pending.{Pending}
 use Rattle.unfold.specs.declared.Next.{Next}
-use Rattle.unfold.specs.Spine.{newestFirst, GoesOn}
+use Rattle.unfold.specs.Spine.{newestFirst, waiting, Stays, GoesOn}
 
-pub waiting-length : (items : List ℕ) (depth : ℕ) → length (newestFirst items depth) ≡ depth
-waiting-length items zero = refl
-waiting-length items (suc depth) = let h = waiting-length items depth in omega arith
+newest-length : (stack : List ℕ) (base n : ℕ) → length (newestFirst stack base n) ≡ n
+newest-length stack base zero = refl
+newest-length stack base (suc n) = let h = newest-length stack base n in omega arith
 
-below-kept : (items : List ℕ) (depth k v : ℕ) → k ≤ depth → newestFirst (set items depth v) k ≡ newestFirst items k
-below-kept items depth zero v h = refl
-below-kept items depth (suc k) v h =
-    rw (getD-set-other items depth k v 0 (omega arith), below-kept items depth k v (omega arith))
+pub waiting-length : (stack : List ℕ) (base depth : ℕ) → length (waiting stack base depth) ≡ depth - base
+waiting-length stack base depth = newest-length stack base (depth - base)
+
+pub none-waiting : (stack : List ℕ) (base : ℕ) → waiting stack base base ≡ []
+none-waiting stack base = rw (sub-self base)
+
+-- What stays up to depth stays up to a lower base, and so does what is pending between them; two changes are one.
+pub untouched : {base : ℕ} {stack : List ℕ} → Stays base stack stack
+untouched = record { below = refl; long = refl }
+
+pub stored : (stack : List ℕ) (base depth v : ℕ) → base ≤ depth → Stays base stack (set stack depth v)
+stored stack base depth v h = record { below = take-set-le base stack depth v h; long = length-set stack depth v }
+
+pub stays-then : {base : ℕ} {old mid new : List ℕ} → Stays base old mid → Stays base mid new → Stays base old new
+stays-then x y = record { below = y .below ∙ x .below; long = y .long ∙ x .long }
+
+module _ (base depth : ℕ) {old new : List ℕ} (h : base ≤ depth) (e : Stays depth old new) where
+  pub stays-below : Stays base old new
+  stays-below =
+      record { below = sym (take-take base depth new h) ∙ ap (take base) (e .below) ∙ take-take base depth old h; long = e .long }
+
+  newest-stays : (n : ℕ) → base + n ≤ depth → newestFirst new base n ≡ newestFirst old base n
+  newest-stays zero l = refl
+  newest-stays (suc n) l =
+      rw (← getD-take depth new (base + n) 0 (omega arith), e .below, getD-take depth old (base + n) 0 (omega arith), newest-stays n (omega arith))
+
+  pub waiting-stays : waiting new base depth ≡ waiting old base depth
+  waiting-stays = newest-stays (depth - base) (omega arith)
 
 -- One more, and one less.
-pub one-more : (items : List ℕ) (depth v : ℕ) → depth < length items
-    → newestFirst (set items depth v) (depth + 1) ≡ v ∷ newestFirst items depth
-one-more items depth v h = rw (add-one, getD-set-same items depth v 0 h, below-kept items depth depth v (omega arith))
+module _ (stack : List ℕ) (base depth : ℕ) where
+  one-over : base ≤ depth → waiting stack base (depth + 1) ≡ getD stack depth 0 ∷ waiting stack base depth
+  one-over h =
+      let e : depth + 1 - base ≡ suc (depth - base) = omega arith in
+      let f : base + (depth - base) ≡ depth = omega arith in
+      rw (e, f)
 
-pub one-less : (items : List ℕ) (depth : ℕ) → (depth ≡ 0 → ⊥)
-    → newestFirst items depth ≡ getD items (depth - 1) 0 ∷ newestFirst items (depth - 1)
-one-less items zero h = absurd (h refl)
-one-less items (suc depth) h = let e : suc depth - 1 ≡ depth = omega arith in rw e
+one-more : (stack : List ℕ) (base depth v : ℕ) → base ≤ depth → depth < length stack
+    → waiting (set stack depth v) base (depth + 1) ≡ v ∷ waiting stack base depth
+one-more stack base depth v h l =
+    rw (
+      one-over (set stack depth v) base depth h,
+      getD-set-same stack depth v 0 l,
+      waiting-stays base depth h (stored stack depth depth v (le-refl depth)),
+    )
+
+one-less : (stack : List ℕ) (base depth : ℕ) → base ≤ depth → (depth ≡ base → ⊥)
+    → waiting stack base depth ≡ getD stack (depth - 1) 0 ∷ waiting stack base (depth - 1)
+one-less stack base depth h ne =
+    let e : depth - 1 + 1 ≡ depth = omega arith in
+    rw e at (one-over stack base (depth - 1) (omega arith))
 
 -- What each action leaves pending.
-module _ {a : Action} (s : Step) (pending : Pending) where
-  acting : {b : Action} {next : Next} → a ≡ b → GoesOn b s pending next → GoesOn a s pending next
-  acting {next = next} e h = subst (λ (c : Action). GoesOn c s pending next) (sym e) h
+module _ {a : Action} (s : Step) (stack : List ℕ) (base depth : ℕ) where
+  acting : {b : Action} {new : List ℕ} {next : Next} → a ≡ b → GoesOn b s stack base depth new next
+      → GoesOn a s stack base depth new next
+  acting {new = new} {next = next} e h = subst (λ (c : Action). GoesOn c s stack base depth new next) (sym e) h
 
-  pub taking : {g : ℕ} → a ≡ Take g → (pending .depth ≡ 0 → ⊥)
-      → GoesOn a s pending
-      (record {
-        position = getD (pending .items) (pending .depth - 1) 0;
-        pending = record { items = pending .items; depth = pending .depth - 1 };
-      })
-  taking {g} e h = let less = sym (one-less (pending .items) (pending .depth) h) in
+  pub ending : {g : ℕ} → a ≡ Take g → depth ≡ base
+      → GoesOn a s stack base depth stack (record { position = s .dependent; depth = depth })
+  ending {g} e f = let none : [] ≡ waiting stack base depth = rw f (sym (none-waiting stack base)) in
       acting e
       (record {
-        position = ap (λ (l : List ℕ). onward (grammar.Take g) (s .dependent) (s .continuation) l .position) less;
+        position = ap (λ (l : List ℕ). onward (grammar.Take g) (s .dependent) (s .continuation) l .position) none;
+        rest = sym none ∙ ap (λ (l : List ℕ). onward (grammar.Take g) (s .dependent) (s .continuation) l .pending) none;
+        above = omega arith;
+        stays = untouched;
+      })
+
+  pub taking : {g x : ℕ} → a ≡ Take g → base ≤ depth → (depth ≡ base → ⊥) → x ≡ getD stack (depth - 1) 0
+      → GoesOn a s stack base depth stack (record { position = x; depth = depth - 1 })
+  taking {g} e h ne f = let less = sym (one-less stack base depth h ne) in
+      acting e
+      (record {
+        position = f ∙ ap (λ (l : List ℕ). onward (grammar.Take g) (s .dependent) (s .continuation) l .position) less;
         rest = ap (λ (l : List ℕ). onward (grammar.Take g) (s .dependent) (s .continuation) l .pending) less;
+        above = omega arith;
+        stays = untouched;
       })
 
-  pub keeping : a ≡ Keep → GoesOn a s pending (record { position = s .dependent; pending = pending })
-  keeping e = acting e (record { position = refl; rest = refl })
+  pub keeping : a ≡ Keep → base ≤ depth → GoesOn a s stack base depth stack (record { position = s .dependent; depth = depth })
+  keeping e h = acting e (record { position = refl; rest = refl; above = h; stays = untouched })
 
-  pub giving : {g : ℕ} → a ≡ Give g → pending .depth < length (pending .items)
-      → GoesOn a s pending
-      (record {
-        position = s .dependent;
-        pending = record { items = set (pending .items) (pending .depth) (s .continuation); depth = pending .depth + 1 };
-      })
-  giving e h =
+  pub giving : {g : ℕ} → a ≡ Give g → base ≤ depth → depth < length stack
+      → GoesOn a s stack base depth (set stack depth (s .continuation)) (record { position = s .dependent; depth = depth + 1 })
+  giving e h l =
       acting e
-      (record { position = refl; rest = one-more (pending .items) (pending .depth) (s .continuation) h })
+      (record {
+        position = refl;
+        rest = one-more stack base depth (s .continuation) h l;
+        above = omega arith;
+        stays = stored stack base depth (s .continuation) h;
+      })

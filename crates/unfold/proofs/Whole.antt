@@ -24,15 +24,17 @@ start-ready {chart = chart} {count = count} {m = m} {n = n} held inside e =
       pends = subst (λ (φ : Foot). Pends (chartIn chart count) φ [] []) (sym (start-foot chart m n e)) settled;
     }
 
-pub start-asked : {card chart plan : List ℕ} {count m n : ℕ} → Unfoldable card chart count m n plan → Asked card chart m [] plan 0
-start-asked {chart = chart} {count = count} {m = m} {n = n} u =
+pub start-asked : {card chart stack plan : List ℕ} {count m n : ℕ} → Unfoldable card chart count m n plan → length stack ≡ 24
+    → Asked card chart m [] stack 0 plan 0
+start-asked {chart = chart} {count = count} {m = m} {n = n} u whole =
     let from = start-from chart m n (u .whole) in
     let to = start-to chart m n (u .whole) in
     record {
       words = u .words;
       count = count;
-      stack = [];
+      indices = [];
       ready = start-ready (u .held) (u .inside) (u .whole);
+      whole = whole;
       short = omega (arith, u .short);
       room = omega (arith, u .room);
     }

@@ -17,7 +17,6 @@ use Rattle.layout.specs.Steps.{planBytes, planRoom}
 use Rattle.card.specs.Productions.{actionFrom}
 use Rattle.card.specs.declared.Action.{Action}
 use Rattle.unfold.specs.declared.Step.{Step}
-use Rattle.unfold.specs.declared.Pending.{Pending}
 use Rattle.unfold.specs.declared.Next.{Next}
 use Rattle.unfold.specs.Unfold.{Held}
 
@@ -49,18 +48,32 @@ pub record StepOf (chart : List ℕ) (m : ℕ) (s : Step) : Type 0 where
   pub continuation : s .continuation ≡ wordAt chart (16 * m + 12)
   pub narrow : s .continuation < 65536
 
--- What is pending, newest first.
-abbrev pub newestFirst : List ℕ → ℕ → List ℕ
-newestFirst items zero = []
-newestFirst items (suc depth) = getD items depth 0 ∷ newestFirst items depth
+-- What is pending between base and depth, newest first.
+abbrev pub newestFirst : List ℕ → ℕ → ℕ → List ℕ
+newestFirst stack base zero = []
+newestFirst stack base (suc n) = getD stack (base + n) 0 ∷ newestFirst stack base n
 
-abbrev pub waiting : Pending → List ℕ
-waiting pending = newestFirst (pending .items) (pending .depth)
+abbrev pub waiting : List ℕ → ℕ → ℕ → List ℕ
+waiting stack base depth = newestFirst stack base (depth - base)
+
+-- Below base the stack is as it was, and it is as long.
+pub record Stays (base : ℕ) (old new : List ℕ) : Type 0 where
+  pub below : take base new ≡ take base old
+  pub long : length new ≡ length old
+
+-- The stack has a place for one more, and that is a position.
+pub record Fits (stack : List ℕ) (base depth : ℕ) (s : Step) : Type 0 where
+  pub whole : length stack ≡ 24
+  pub above : base ≤ depth
+  pub free : depth < 24
+  pub narrow : s .continuation < 65536
 
 -- A spine goes on as the definition says.
-pub record GoesOn (a : Action) (s : Step) (pending : Pending) (next : Next) : Type 0 where
-  pub position : next .position ≡ onward (actionFrom a) (s .dependent) (s .continuation) (waiting pending) .position
-  pub rest : waiting (next .pending) ≡ onward (actionFrom a) (s .dependent) (s .continuation) (waiting pending) .pending
+pub record GoesOn (a : Action) (s : Step) (old : List ℕ) (base depth : ℕ) (new : List ℕ) (next : Next) : Type 0 where
+  pub position : next .position ≡ onward (actionFrom a) (s .dependent) (s .continuation) (waiting old base depth) .position
+  pub rest : waiting new base (next .depth) ≡ onward (actionFrom a) (s .dependent) (s .continuation) (waiting old base depth) .pending
+  pub above : base ≤ next .depth
+  pub stays : Stays base old new
 
 -- The room has these bytes from `at` to `next`, and is else as it was.
 pub record Wrote (old : List ℕ) (at : ℕ) (bytes new : List ℕ) (next : ℕ) : Type 0 where
@@ -74,13 +87,15 @@ pub record Ready (card words chart : List ℕ) (count m : ℕ) (s pending : List
   pub inside : m < count
   pub pends : Pends (chartIn chart count) (footThere chart m) s pending
 
--- What an unfolding asks: such a record over few words, for some words and some stack, and room for its plan.
-pub record Asked (card chart : List ℕ) (m : ℕ) (pending plan : List ℕ) (at : ℕ) : Type 0 where
+-- What an unfolding asks: such a record, for some words and some stack, a place on the lent stack above base for each of its words, and
+-- room for its plan.
+pub record Asked (card chart : List ℕ) (m : ℕ) (pending stack : List ℕ) (base : ℕ) (plan : List ℕ) (at : ℕ) : Type 0 where
   pub words : List ℕ
   pub count : ℕ
-  pub stack : List ℕ
-  pub ready : Ready card words chart count m stack pending
-  pub short : spanAt chart m ≤ 24
+  pub indices : List ℕ
+  pub ready : Ready card words chart count m indices pending
+  pub whole : length stack ≡ 24
+  pub short : base + spanAt chart m ≤ 24
   pub room : at + planRoom (spanAt chart m) ≤ length plan
 
 -- The room has a plan that takes A with the stack s to the words from i to j.

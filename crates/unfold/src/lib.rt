@@ -11,7 +11,7 @@ ghost use Rattle.grammar.specs.Plan.{planStep};
 ghost use Rattle.layout.specs.Bytes.{wordAt};
 ghost use Rattle.layout.specs.Steps.{stepBytes};
 ghost use Rattle.unfold.specs.Unfold.{Held, Unfoldable, Planned, Found};
-ghost use Rattle.unfold.specs.Spine.{IsStart, StepOf, GoesOn, Wrote, Asked, Unfolds, waiting};
+ghost use Rattle.unfold.specs.Spine.{IsStart, StepOf, Fits, GoesOn, Wrote, Asked, Unfolds, Stays, waiting};
 
 pub enum Start {
     At(usize),
@@ -52,54 +52,48 @@ fn step_at(chart: &[u8], m: usize) -> Step
     }
 }
 
-// The positions of the continuations that a spine still has to reach, the last one first to come. A stack is less deep than its
-// stretch is long, so there are fewer than a line has words.
-pub struct Pending {
-    pub items: [u16; 24],
+// A position on the stack, to count with.
+fn wide16(x: u16) -> usize
+    ensures { λ r. ⌜ r ≡ x ⌝ }
+{
+    x as usize
+}
+
+// Where a spine goes on, and how deep the stack is then.
+pub struct Next {
+    pub position: usize,
     pub depth: usize,
 }
 
-// Where a spine goes on, and with what pending.
-pub struct Next {
-    pub position: usize,
-    pub pending: Pending,
-}
-
-// A take goes on with the pending continuation and not with its recorded dependent, a give adds its own.
-fn onward(a: Action, s: Step, pending: Pending) -> Next
-    requires { ⌜ (pending .depth < 24) × (s .continuation < 65536) ⌝ }
-    ensures { λ r. ⌜ GoesOn a s pending r ⌝ }
+// The positions of the continuations that a spine still has to reach stand in stack[base..depth], the last one first to come. A take
+// goes on with that one and not with its recorded dependent, a give adds its own.
+fn onward(a: Action, s: Step, stack: &mut [u16; 24], base: usize, depth: usize) -> Next
+    requires { ⌜ Fits (now stack) base depth s ⌝ }
+    ensures { λ r. ⌜ GoesOn a s (now (stack .entry)) base depth (now (stack .exit)) r ⌝ }
 {
-    let depth = pending.depth;
-    let mut items = pending.items;
     match a {
         Action::Take(_) => {
-            if depth == 0 {
+            if depth == base {
                 return Next {
                     position: s.dependent,
-                    pending,
+                    depth,
                 };
             }
             let last = depth - 1;
-            let waiting = items[last] as usize;
             Next {
-                position: waiting,
-                pending: Pending { items, depth: last },
+                position: wide16(stack[last]),
+                depth: last,
             }
         }
         Action::Keep => Next {
             position: s.dependent,
-            pending,
+            depth,
         },
         Action::Give(_) => {
-            items[depth] = s.continuation as u16;
-            let deeper = depth + 1;
+            stack[depth] = s.continuation as u16;
             Next {
                 position: s.dependent,
-                pending: Pending {
-                    items,
-                    depth: deeper,
-                },
+                depth: depth + 1,
             }
         }
     }
@@ -117,38 +111,56 @@ fn put_step(plan: &mut [u8], at: usize, p: u8, i: u8, k: u8, j: u8) -> usize
     at + 4
 }
 
-// The record at position m with nothing pending.
-fn side(card: &[u8], chart: &[u8], plan: &mut [u8], m: usize, at: usize) -> usize
-    requires { ⌜ Asked (now card) (now chart) m [] (now plan) at ⌝ }
+// The record at position m with nothing pending: what is on the stack belongs to others, and stays.
+fn side(
+    card: &[u8],
+    chart: &[u8],
+    plan: &mut [u8],
+    m: usize,
+    stack: &mut [u16; 24],
+    depth: usize,
+    at: usize,
+) -> usize
+    requires { ⌜ Asked (now card) (now chart) m [] (now stack) depth (now plan) at ⌝ }
     ensures { λ r. ⌜ Unfolds (now (card .entry)) (now (chart .entry)) m [] (now (plan .entry)) at (now (plan .exit)) r ⌝ }
+    ensures { λ r. ⌜ Stays depth (now (stack .entry)) (now (stack .exit)) ⌝ }
 {
-    let items = [0u16; 24];
-    let none = Pending { items, depth: 0 };
-    spine(card, chart, plan, m, none, at)
+    spine(card, chart, plan, m, stack, depth, depth, at)
 }
 
-// The step of the record at position m, and then its two parts, leftmost first.
-fn spine(card: &[u8], chart: &[u8], plan: &mut [u8], m: usize, pending: Pending, at: usize) -> usize
-    requires { ⌜ Asked (now card) (now chart) m (waiting pending) (now plan) at ⌝ }
-    ensures { λ r. ⌜ Unfolds (now (card .entry)) (now (chart .entry)) m (waiting pending) (now (plan .entry)) at (now (plan .exit)) r ⌝ }
+// The step of the record at position m, and then its two parts, leftmost first. A side that comes first has its own part of the stack
+// above what is pending; one that comes last finds nothing pending any more.
+fn spine(
+    card: &[u8],
+    chart: &[u8],
+    plan: &mut [u8],
+    m: usize,
+    stack: &mut [u16; 24],
+    base: usize,
+    depth: usize,
+    at: usize,
+) -> usize
+    requires { ⌜ (base ≤ depth) × Asked (now card) (now chart) m (waiting (now stack) base depth) (now stack) base (now plan) at ⌝ }
+    ensures { λ r. ⌜ Unfolds (now (card .entry)) (now (chart .entry)) m (waiting (now (stack .entry)) base depth) (now (plan .entry)) at (now (plan .exit)) r ⌝ }
+    ensures { λ r. ⌜ Stays base (now (stack .entry)) (now (stack .exit)) ⌝ }
 {
     let s = step_at(chart, m);
     let rule = card::decode(card, s.production);
     match rule {
         Production::Word { .. } => put_step(plan, at, s.production, s.from, s.to, s.to),
         Production::SideFirst { action, .. } => {
-            let o = onward(action, s, pending);
+            let o = onward(action, s, stack, base, depth);
             let first = step_at(chart, s.side);
             let rest = put_step(plan, at, s.production, s.from, first.to, s.to);
-            let next = side(card, chart, plan, s.side, rest);
-            spine(card, chart, plan, o.position, o.pending, next)
+            let next = side(card, chart, plan, s.side, stack, o.depth, rest);
+            spine(card, chart, plan, o.position, stack, base, o.depth, next)
         }
         Production::SideLast { action, .. } => {
-            let o = onward(action, s, pending);
+            let o = onward(action, s, stack, base, depth);
             let last = step_at(chart, s.side);
             let rest = put_step(plan, at, s.production, s.from, last.from, s.to);
-            let next = spine(card, chart, plan, o.position, o.pending, rest);
-            side(card, chart, plan, s.side, next)
+            let next = spine(card, chart, plan, o.position, stack, base, o.depth, rest);
+            side(card, chart, plan, s.side, stack, base, next)
         }
     }
 }
@@ -195,5 +207,6 @@ pub fn unfold(card: &[u8], chart: &[u8], count: usize, m: usize, n: usize, plan:
     requires { ⌜ Unfoldable (now card) (now chart) count m n (now plan) ⌝ }
     ensures { λ r. ⌜ ((words : List ℕ) → Held (now (card .entry)) words (now (chart .entry)) count → Planned (now (card .entry)) words n (now (plan .entry)) (now (plan .exit))) ⌝ }
 {
-    side(card, chart, plan, m, 0);
+    let mut stack = [0u16; 24];
+    side(card, chart, plan, m, &mut stack, 0, 0);
 }

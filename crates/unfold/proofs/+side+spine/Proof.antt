@@ -1,16 +1,18 @@
 -- The two unfoldings, a side with nothing pending and a spine with its continuations: each record's parts are shorter than it, so the
 -- measure is the stretch, twice, and one more for a side, which hands on the same record. The laws of Spines.antt answer each call.
 use Prim.Native.Nat.{ℕ, _+_, _*_, _<_}
+use native.Mathlib.Nat.{le-refl}
 use native.Mathlib.Omega.{arith}
-use mathlib.Core.Path.{_∙_}
+use mathlib.Core.Path.{_≡_, refl, _∙_}
 use mathlib.Core.List.{List, []}
 use borrow.Author.Needs.{needs}
 use borrow.Fn.Kinds.{In}
 use borrow.Fn.PlainCycle.{Measures, is, falls, and}
 use denote.Ref.{now}
 use Rattle.unfold.specs.Spine.{spanAt, waiting, Ready}
-use Rattle.unfold.proofs.Spines.{record-inside, depth-fits, step-room, lone, word-turn, FirstParts, first-turn, LastParts, last-turn}
-use Rattle.unfold.proofs.Spines.{first-shorter, second-shorter, meeting, first-asked, second-asked, first-step, last-step, joined}
+use Rattle.unfold.proofs.Waiting.{untouched, stays-then, stays-below, waiting-stays}
+use Rattle.unfold.proofs.Spines.{record-inside, depth-fits, side-ready, side-asked, step-room, lone, word-turn, FirstParts, first-turn, LastParts, last-turn}
+use Rattle.unfold.proofs.Spines.{first-shorter, second-shorter, meeting, first-above, first-asked, second-asked, first-step, last-step, joined}
 use Rattle.unfold.proofs.side.Reads as side
 use Rattle.unfold.proofs.side.Kinds as side-kinds
 use Rattle.unfold.proofs.+side+spine.Lts-side as side-lts
@@ -24,23 +26,23 @@ use Rattle.unfold.proofs.step_at.Reads as step-at-reads
 use Rattle.unfold.proofs.+side+spine.{statement}
 use Rattle.unfold.proofs.+side+spine.Tie.{close}
 
-abbrev μ-side : Measures 3 side-kinds.ps ℕ
+abbrev μ-side : Measures 4 side-kinds.ps ℕ
 μ-side κs a = 2 * spanAt (a .1 .0 .now) (a .1 .1 .1 .0) + 1
 
-abbrev μ-spine : Measures 3 spine-kinds.ps ℕ
+abbrev μ-spine : Measures 4 spine-kinds.ps ℕ
 μ-spine κs a = 2 * spanAt (a .1 .0 .now) (a .1 .1 .1 .0)
 
-abbrev side-at : ℕ → In 3 side-kinds.ps
-side-at t = and 3 side-kinds.ps (is 3 side-kinds.ps μ-side t) side.Pre
+abbrev side-at : ℕ → In 4 side-kinds.ps
+side-at t = and 4 side-kinds.ps (is 4 side-kinds.ps μ-side t) side.Pre
 
-abbrev side-below : ℕ → In 3 side-kinds.ps
-side-below t = and 3 side-kinds.ps (falls 3 side-kinds.ps _<_ μ-side t) side.Pre
+abbrev side-below : ℕ → In 4 side-kinds.ps
+side-below t = and 4 side-kinds.ps (falls 4 side-kinds.ps _<_ μ-side t) side.Pre
 
-abbrev spine-at : ℕ → In 3 spine-kinds.ps
-spine-at t = and 3 spine-kinds.ps (is 3 spine-kinds.ps μ-spine t) spine.Pre
+abbrev spine-at : ℕ → In 4 spine-kinds.ps
+spine-at t = and 4 spine-kinds.ps (is 4 spine-kinds.ps μ-spine t) spine.Pre
 
-abbrev spine-below : ℕ → In 3 spine-kinds.ps
-spine-below t = and 3 spine-kinds.ps (falls 3 spine-kinds.ps _<_ μ-spine t) spine.Pre
+abbrev spine-below : ℕ → In 4 spine-kinds.ps
+spine-below t = and 4 spine-kinds.ps (falls 4 spine-kinds.ps _<_ μ-spine t) spine.Pre
 
 -- The functions that `spine` calls.
 abbrev called : ℕ → spine-lts.Claims
@@ -60,16 +62,21 @@ called t = (
 )
 
 side-spine-requires : (t : ℕ) → side-lts.Need-spine-requires (spine-below t, spine.Post) (side-at t) side.Post
-side-spine-requires t c κs = let own = c .before .before .before .before .pre in (omega (arith, own .0), own .1)
+side-spine-requires t c κs = let own = c .before .before .before .before .before .pre in
+    (omega (arith, own .0), (le-refl _, side-asked _ _ (own .1)))
 
 side-same-length : (t : ℕ) → side-lts.Need-same-length (spine-below t, spine.Post) (side-at t) side.Post
 side-same-length t c = c .before .before .spine .kept .1 .1 .0
 
 side-returns : (t : ℕ) → side-lts.Need-returns (spine-below t, spine.Post) (side-at t) side.Post
-side-returns t c = c .before .before .spine .ensures
+side-returns t c =
+    let past = c .before .before in
+    let a = past .before .before .before .before .before .before .args in
+    let (plans, stays) = past .spine .ensures in
+    (λ words count s ready. plans words count s (side-ready (now (a .stack)) (a .depth) ready), stays)
 
 spine-step-at-requires : (t : ℕ) → spine-lts.Need-step-at-requires (called t) (spine-at t) spine.Post
-spine-step-at-requires t c κs = record-inside (c .before .before .before .pre .1 .ready)
+spine-step-at-requires t c κs = record-inside (c .before .before .before .pre .1 .1 .ready)
 
 spine-decode-requires : (t : ℕ) → spine-lts.Need-decode-requires (called t) (spine-at t) spine.Post
 spine-decode-requires t c κs = tt
@@ -84,90 +91,115 @@ spine-enum-told : (t : ℕ) → spine-lts.Need-enum-told (called t) (spine-at t)
 spine-enum-told t c = search needs
 
 spine-put-step-requires : (t : ℕ) → spine-lts.Need-put-step-requires (called t) (spine-at t) spine.Post
-spine-put-step-requires t c κs = step-room (began (c .before .before .before) .pre .1)
+spine-put-step-requires t c κs = step-room (began (c .before .before .before) .pre .1 .1)
 
 spine-same-length : (t : ℕ) → spine-lts.Need-same-length (called t) (spine-at t) spine.Post
 spine-same-length t c = c .before .before .put-step .kept .0
 
 spine-returns : (t : ℕ) → spine-lts.Need-returns (called t) (spine-at t) spine.Post
-spine-returns t c words count s ready =
+spine-returns t c =
     let put = c .before .before in
     let told = put .before .before in
     let d = told .before .before in
-    lone
-    (word-turn (began d .args .pending) _ _ ready (d .before .step-at .ensures) (d .decode .ensures) (told .enum-told .given .1))
-    (put .put-step .ensures)
+    let a = began d .args in (
+      λ words count s ready. lone
+          (word-turn (now (a .stack)) (a .base) (a .depth) _ _ ready (d .before .step-at .ensures) (d .decode .ensures) (told .enum-told .given .1))
+          (put .put-step .ensures),
+      untouched,
+    )
 
 -- The side first.
-first-parts : {t : ℕ} (c : spine-lts.After-onward (called t) (spine-at t) spine.Post) {words s : List ℕ} {count : ℕ}
-    → let a = began (c .before .before .before .before) .args in
-    Ready (now (a .card)) words (now (a .chart)) count (a .m) s (waiting (a .pending))
+first-parts : {t : ℕ} (c : spine-lts.After-onward (called t) (spine-at t) spine.Post) {words s rest : List ℕ} {count : ℕ}
+    → let a = began (c .before .before .before .before .before) .args in
+    Ready (now (a .card)) words (now (a .chart)) count (a .m) s (waiting (now (a .stack)) (a .base) (a .depth))
+    → rest ≡ waiting (c .onward .last .1 .1 .0) (a .base) (c .onward .result .depth)
     → FirstParts (now (a .card)) words (now (a .chart)) count (a .m) s
-    (c .before .before .before .before .before .step-at .result) (c .onward .result)
-first-parts c ready =
-    let d = c .before .before .before .before in
-    first-turn (began d .args .pending) _ _ ready (d .before .step-at .ensures) (d .decode .ensures) (c .before .before .rule .given .1)
-    (c .onward .ensures)
+    (c .before .before .before .before .before .before .step-at .result) (c .onward .result .position) rest
+first-parts c ready same =
+    let d = c .before .before .before .before .before in
+    first-turn _ _ _ _ _ ready (d .before .step-at .ensures) (d .decode .ensures) (c .before .before .before .rule .given .1)
+    (c .onward .ensures) same
 
 spine-enum-known-rule : (t : ℕ) → spine-lts.Need-enum-known-rule (called t) (spine-at t) spine.Post
 spine-enum-known-rule t c = search needs
 
 spine-onward-requires : (t : ℕ) → spine-lts.Need-onward-requires (called t) (spine-at t) spine.Post
 spine-onward-requires t c κs =
-    let b = began (c .before .before .before) in
-    depth-fits (b .args .pending) (b .pre .1 .ready) (c .before .before .before .before .step-at .ensures) (b .pre .1 .short)
+    let d = c .before .before .before .before in
+    let own = began d .pre .1 in
+    depth-fits _ _ _ (own .0) (own .1) (d .before .step-at .ensures)
 
 spine-step-at-requires-2 : (t : ℕ) → spine-lts.Need-step-at-requires-2 (called t) (spine-at t) spine.Post
 spine-step-at-requires-2 t c κs =
-    let (k, parts) = first-parts c (began (c .before .before .before .before) .pre .1 .ready) in
+    let (k, parts) = first-parts c (began (c .before .before .before .before .before) .pre .1 .1 .ready) refl in
     record-inside (parts .first .ready)
 
 spine-put-step-requires-2 : (t : ℕ) → spine-lts.Need-put-step-requires-2 (called t) (spine-at t) spine.Post
-spine-put-step-requires-2 t c κs = step-room (began (c .before .before .before .before .before .before) .pre .1)
+spine-put-step-requires-2 t c κs = step-room (began (c .before .before .before .before .before .before .before) .pre .1 .1)
 
 spine-side-requires : (t : ℕ) → spine-lts.Need-side-requires (called t) (spine-at t) spine.Post
 spine-side-requires t c κs =
-    let put = c .before .before .before in
+    let put = c .before .before .before .before in
     let gone = put .before .before .before in
-    let own = began (gone .before .before .before .before) .pre in
-    let (k, parts) = first-parts gone (own .1 .ready) in
-    (omega (arith, own .0, first-shorter parts), first-asked parts (own .1 .short) (own .1 .room) (put .put-step2 .ensures))
+    let own = began (gone .before .before .before .before .before) .pre in
+    let asked = own .1 .1 in
+    let goes = gone .onward .ensures in
+    let (k, parts) = first-parts gone (asked .ready) refl in (
+      omega (arith, own .0, first-shorter parts),
+      first-asked parts (asked .room) (put .put-step2 .ensures) (goes .stays .long ∙ asked .whole)
+          (first-above parts _ refl (goes .above) (asked .short)),
+    )
 
 spine-spine-requires : (t : ℕ) → spine-lts.Need-spine-requires (called t) (spine-at t) spine.Post
 spine-spine-requires t c κs =
-    let past = c .before .before .before in
-    let put = past .before .before .before .before in
+    let past = c .before .before .before .before in
+    let put = past .before .before .before .before .before in
     let gone = put .before .before .before in
-    let own = began (gone .before .before .before .before) .pre in
-    let (k, parts) = first-parts gone (own .1 .ready) in
-    let plan = past .side .ensures _ _ _ (parts .first .ready) in
-    (omega (arith, own .0, second-shorter parts), second-asked parts (own .1 .short) (own .1 .room) (put .put-step2 .ensures) plan)
+    let own = began (gone .before .before .before .before .before) .pre in
+    let asked = own .1 .1 in
+    let goes = gone .onward .ensures in
+    let (plans, stays) = past .side .ensures in
+    let (k, parts) = first-parts gone (asked .ready) (waiting-stays _ _ (goes .above) stays) in (
+      omega (arith, own .0, second-shorter parts),
+      (
+        goes .above,
+        second-asked parts (asked .room) (put .put-step2 .ensures) (stays .long ∙ goes .stays .long ∙ asked .whole) (asked .short)
+            (plans _ _ _ (parts .first .ready)),
+      ),
+    )
 
 spine-same-length-2 : (t : ℕ) → spine-lts.Need-same-length-2 (called t) (spine-at t) spine.Post
 spine-same-length-2 t c =
-    let past = c .before .before .before .before .before .before in
-    c .before .before .spine .kept .1 .1 .0 ∙ past .side .kept .1 .1 .0 ∙ past .before .before .before .before .put-step2 .kept .0
+    let last = c .before .before in
+    let past = last .before .before .before .before .before in
+    last .spine .kept .1 .1 .0 ∙ past .side .kept .1 .1 .0 ∙ past .before .before .before .before .before .put-step2 .kept .0
 
 spine-returns-2 : (t : ℕ) → spine-lts.Need-returns-2 (called t) (spine-at t) spine.Post
-spine-returns-2 t c words count s ready =
+spine-returns-2 t c =
     let last = c .before .before in
-    let past = last .before .before .before .before in
-    let put = past .before .before .before .before in
+    let past = last .before .before .before .before .before in
+    let put = past .before .before .before .before .before in
     let read = put .before .before in
     let gone = read .before in
-    let (k, parts) = first-parts gone ready in
-    joined parts (first-step (gone .before .before .before .before .before .step-at .ensures) (read .step-at2 .ensures))
-    (put .put-step2 .ensures) (past .side .ensures words count [] (parts .first .ready)) (last .spine .ensures words count k (parts .second .ready))
+    let goes = gone .onward .ensures in
+    let (firsts, kept) = past .side .ensures in
+    let (seconds, stays) = last .spine .ensures in (
+      λ words count s ready. let (k, parts) = first-parts gone ready (waiting-stays _ _ (goes .above) kept) in
+          joined parts (first-step (gone .before .before .before .before .before .before .step-at .ensures) (read .step-at2 .ensures))
+          (put .put-step2 .ensures) (firsts words count [] (parts .first .ready)) (seconds words count k (parts .second .ready)),
+      stays-then (goes .stays) (stays-then (stays-below _ _ (goes .above) kept) stays),
+    )
 
 -- The side last.
 last-parts : {t : ℕ} (c : spine-lts.After-onward2 (called t) (spine-at t) spine.Post) {words s : List ℕ} {count : ℕ}
-    → let a = began (c .before .before .before .before) .args in
-    Ready (now (a .card)) words (now (a .chart)) count (a .m) s (waiting (a .pending))
+    → let a = began (c .before .before .before .before .before) .args in
+    Ready (now (a .card)) words (now (a .chart)) count (a .m) s (waiting (now (a .stack)) (a .base) (a .depth))
     → LastParts (now (a .card)) words (now (a .chart)) count (a .m) s
-    (c .before .before .before .before .before .step-at .result) (c .onward2 .result)
+    (c .before .before .before .before .before .before .step-at .result) (c .onward2 .result .position)
+    (waiting (c .onward2 .last .1 .1 .0) (a .base) (c .onward2 .result .depth))
 last-parts c ready =
-    let d = c .before .before .before .before in
-    last-turn (began d .args .pending) _ _ ready (d .before .step-at .ensures) (d .decode .ensures) (c .before .before .rule2 .given .1)
+    let d = c .before .before .before .before .before in
+    last-turn _ _ _ _ _ ready (d .before .step-at .ensures) (d .decode .ensures) (c .before .before .before .rule2 .given .1)
     (c .onward2 .ensures)
 
 spine-enum-known-rule-2 : (t : ℕ) → spine-lts.Need-enum-known-rule-2 (called t) (spine-at t) spine.Post
@@ -175,50 +207,69 @@ spine-enum-known-rule-2 t c = search needs
 
 spine-onward-requires-2 : (t : ℕ) → spine-lts.Need-onward-requires-2 (called t) (spine-at t) spine.Post
 spine-onward-requires-2 t c κs =
-    let b = began (c .before .before .before) in
-    depth-fits (b .args .pending) (b .pre .1 .ready) (c .before .before .before .before .step-at .ensures) (b .pre .1 .short)
+    let d = c .before .before .before .before in
+    let own = began d .pre .1 in
+    depth-fits _ _ _ (own .0) (own .1) (d .before .step-at .ensures)
 
 spine-step-at-requires-3 : (t : ℕ) → spine-lts.Need-step-at-requires-3 (called t) (spine-at t) spine.Post
 spine-step-at-requires-3 t c κs =
-    let (k, parts) = last-parts c (began (c .before .before .before .before) .pre .1 .ready) in
+    let (k, parts) = last-parts c (began (c .before .before .before .before .before) .pre .1 .1 .ready) in
     record-inside (parts .second .ready)
 
 spine-put-step-requires-3 : (t : ℕ) → spine-lts.Need-put-step-requires-3 (called t) (spine-at t) spine.Post
-spine-put-step-requires-3 t c κs = step-room (began (c .before .before .before .before .before .before) .pre .1)
+spine-put-step-requires-3 t c κs = step-room (began (c .before .before .before .before .before .before .before) .pre .1 .1)
 
 spine-spine-requires-2 : (t : ℕ) → spine-lts.Need-spine-requires-2 (called t) (spine-at t) spine.Post
 spine-spine-requires-2 t c κs =
-    let put = c .before .before .before in
+    let put = c .before .before .before .before in
     let gone = put .before .before .before in
-    let own = began (gone .before .before .before .before) .pre in
-    let (k, parts) = last-parts gone (own .1 .ready) in
-    (omega (arith, own .0, first-shorter parts), first-asked parts (own .1 .short) (own .1 .room) (put .put-step3 .ensures))
+    let own = began (gone .before .before .before .before .before) .pre in
+    let asked = own .1 .1 in
+    let goes = gone .onward2 .ensures in
+    let (k, parts) = last-parts gone (asked .ready) in (
+      omega (arith, own .0, first-shorter parts),
+      (
+        goes .above,
+        first-asked parts (asked .room) (put .put-step3 .ensures) (goes .stays .long ∙ asked .whole)
+            (omega (arith, asked .short, first-shorter parts)),
+      ),
+    )
 
 spine-side-requires-2 : (t : ℕ) → spine-lts.Need-side-requires-2 (called t) (spine-at t) spine.Post
 spine-side-requires-2 t c κs =
-    let past = c .before .before .before in
-    let put = past .before .before .before .before in
+    let past = c .before .before .before .before in
+    let put = past .before .before .before .before .before in
     let gone = put .before .before .before in
-    let own = began (gone .before .before .before .before) .pre in
-    let (k, parts) = last-parts gone (own .1 .ready) in
-    let plan = past .spine2 .ensures _ _ _ (parts .first .ready) in
-    (omega (arith, own .0, second-shorter parts), second-asked parts (own .1 .short) (own .1 .room) (put .put-step3 .ensures) plan)
+    let own = began (gone .before .before .before .before .before) .pre in
+    let asked = own .1 .1 in
+    let (plans, stays) = past .spine2 .ensures in
+    let (k, parts) = last-parts gone (asked .ready) in (
+      omega (arith, own .0, second-shorter parts),
+      second-asked parts (asked .room) (put .put-step3 .ensures) (stays .long ∙ gone .onward2 .ensures .stays .long ∙ asked .whole)
+          (asked .short) (plans _ _ _ (parts .first .ready)),
+    )
 
 spine-same-length-3 : (t : ℕ) → spine-lts.Need-same-length-3 (called t) (spine-at t) spine.Post
 spine-same-length-3 t c =
-    let past = c .before .before .before .before .before .before in
-    c .before .before .side2 .kept .1 .1 .0 ∙ past .spine2 .kept .1 .1 .0 ∙ past .before .before .before .before .put-step3 .kept .0
+    let last = c .before .before in
+    let past = last .before .before .before .before .before in
+    last .side2 .kept .1 .1 .0 ∙ past .spine2 .kept .1 .1 .0 ∙ past .before .before .before .before .before .put-step3 .kept .0
 
 spine-returns-3 : (t : ℕ) → spine-lts.Need-returns-3 (called t) (spine-at t) spine.Post
-spine-returns-3 t c words count s ready =
+spine-returns-3 t c =
     let last = c .before .before in
-    let past = last .before .before .before .before in
-    let put = past .before .before .before .before in
+    let past = last .before .before .before .before .before in
+    let put = past .before .before .before .before .before in
     let read = put .before .before in
     let gone = read .before in
-    let (k, parts) = last-parts gone ready in
-    joined parts (last-step (gone .before .before .before .before .before .step-at .ensures) (read .step-at3 .ensures) (meeting parts))
-    (put .put-step3 .ensures) (past .spine2 .ensures words count k (parts .first .ready)) (last .side2 .ensures words count [] (parts .second .ready))
+    let (firsts, kept) = past .spine2 .ensures in
+    let (seconds, stays) = last .side2 .ensures in (
+      λ words count s ready. let (k, parts) = last-parts gone ready in
+          joined parts
+          (last-step (gone .before .before .before .before .before .before .step-at .ensures) (read .step-at3 .ensures) (meeting parts))
+          (put .put-step3 .ensures) (firsts words count k (parts .first .ready)) (seconds words count [] (parts .second .ready)),
+      stays-then (gone .onward2 .ensures .stays) (stays-then kept stays),
+    )
 
 pub +side+spine-spec : {M : Type 1} → statement M
 +side+spine-spec =

@@ -1,27 +1,29 @@
--- By the action: a take finds the newest continuation at the top of the array, a keep changes nothing, and a give stores its own at
--- the depth, above all that are pending. The laws of Waiting.antt say so of what the array holds, newest first.
-use Rattle.unfold.proofs.Waiting.{taking, keeping, giving}
+-- By the action: a take finds the newest continuation at the top of the stack, a keep changes nothing, and a give stores its own at
+-- the depth, above all that are pending. The laws of Waiting.antt say so of what the stack holds, newest first.
+use Rattle.unfold.proofs.Waiting.{ending, taking, keeping, giving}
+use native.Mathlib.Omega.{arith}
 use borrow.Author.Needs.{needs}
 use Rattle.unfold.proofs.onward.Statement.{statement}
 use Rattle.unfold.proofs.onward.Tie as tie
+use Rattle.unfold.proofs.wide16.Reads as wide16-reads
 
 enum-told : tie.Need-enum-told
 enum-told c = search needs
 
 returns : tie.Need-returns
-returns c = search needs
+returns c = ending _ _ _ _ (c .before .enum-told .given .1) (c .if1 .taken)
 
 sub-last : tie.Need-sub-last
 sub-last c = search needs
 
-mul-waiting : tie.Need-mul-waiting
-mul-waiting c = search needs
+mul-wide16 : tie.Need-mul-wide16
+mul-wide16 c = search needs
 
-array-read-waiting : tie.Need-array-read-waiting
-array-read-waiting c = search needs
+element-copy-out-wide16 : tie.Need-element-copy-out-wide16
+element-copy-out-wide16 c = search needs
 
-cast-waiting : tie.Need-cast-waiting
-cast-waiting c = search needs
+wide16-requires : tie.Need-wide16-requires
+wide16-requires c κs = search needs
 
 enum-told-2 : tie.Need-enum-told-2
 enum-told-2 c = search needs
@@ -29,26 +31,29 @@ enum-told-2 c = search needs
 enum-told-3 : tie.Need-enum-told-3
 enum-told-3 c = search needs
 
-cast-items : tie.Need-cast-items
-cast-items c = search needs
+cast-stack : tie.Need-cast-stack
+cast-stack c = search needs
 
-mul-items : tie.Need-mul-items
-mul-items c = search needs
+mul-stack : tie.Need-mul-stack
+mul-stack c = search needs
 
-array-write-items : tie.Need-array-write-items
-array-write-items c = search needs
+element-write-stack : tie.Need-element-write-stack
+element-write-stack c = search needs
 
-add-deeper : tie.Need-add-deeper
-add-deeper c = search needs
+add-t15 : tie.Need-add-t15
+add-t15 c = search needs
 
 returns-2 : tie.Need-returns-2
-returns-2 c = taking _ _ (c .before .enum-told .given .1) (c .if1 .left)
+returns-2 c =
+    let test = c .before .before in
+    taking _ _ _ _ (test .before .enum-told .given .1) (test .before .before .before .pre .above) (test .if1 .left) (c .wide16 .ensures)
 
 returns-3 : tie.Need-returns-3
-returns-3 c = keeping _ _ (c .enum-told2 .given .1)
+returns-3 c = keeping _ _ _ _ (c .enum-told2 .given .1) (c .before .before .pre .above)
 
 returns-4 : tie.Need-returns-4
-returns-4 c = giving _ _ (c .before .enum-told3 .given .1) (search needs)
+returns-4 c = let fits = c .before .before .before .pre in
+    giving _ _ _ _ (c .before .enum-told3 .given .1) (fits .above) (omega (arith, fits .whole, fits .free))
 
 pub onward-spec : {M : Type 1} → statement M
 onward-spec =
@@ -57,15 +62,15 @@ onward-spec =
     enum-told
     returns
     sub-last
-    mul-waiting
-    array-read-waiting
-    cast-waiting
+    mul-wide16
+    element-copy-out-wide16
+    wide16-requires
     enum-told-2
     enum-told-3
-    cast-items
-    mul-items
-    array-write-items
-    add-deeper
+    cast-stack
+    mul-stack
+    element-write-stack
+    add-t15
     returns-2
     returns-3
     returns-4)
