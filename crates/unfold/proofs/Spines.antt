@@ -1,5 +1,6 @@
 -- What the two unfoldings need at each call, over plain values: a record's two parts are shorter than it, and a plan has two steps for
--- each word less one, so the step and the parts' plans, one after the other, fill the room that the record's plan takes.
+-- each word less one, so the step and the parts' plans, one after the other, fill the room that the record's plan takes. Less is pending
+-- than a part has words, so the stack has a place above it for each word of the other part.
 use Prim.Native.Nat.{ℕ, _+_, _*_, _-_, _≤_, _<_}
 use native.Mathlib.Nat.{le-refl}
 use native.Mathlib.Omega.{arith}

@@ -3,12 +3,12 @@
 use Prim.Native.Nat.{ℕ, zero, suc, _+_, _-_, _≤_, _<_}
 use native.Mathlib.Nat.{le-refl, sub-self}
 use native.Mathlib.Omega.{arith}
-use mathlib.Core.Path.{_≡_, refl, sym, _∙_, ap, subst}
+use mathlib.Core.Path.{_≡_, refl, sym, _∙_, ap}
 use mathlib.Core.List.{List, [], _∷_}
 use lib.ListN.{length, getD, set, take, length-set}
 use lib.Seq.{getD-set-same, getD-take, take-set-le, take-take}
-use Rattle.grammar.specs.Rewriting as grammar
 use Rattle.grammar.specs.Chart.{onward}
+use Rattle.card.specs.Productions.{actionFrom}
 use Rattle.card.specs.declared.Action.{Action}
 use Rattle.card.specs.declared.Action.the-variants.{Take, Keep, Give}
 use Rattle.unfold.specs.declared.Step.{Step}
@@ -25,16 +25,17 @@ waiting-length stack base depth = newest-length stack base (depth - base)
 pub none-waiting : (stack : List ℕ) (base : ℕ) → waiting stack base base ≡ []
 none-waiting stack base = rw (sub-self base)
 
--- What stays up to depth stays up to a lower base, and so does what is pending between them; two changes are one.
+-- What stays: nothing changes, a store at the depth changes nothing below it, and two changes are one.
 pub untouched : {base : ℕ} {stack : List ℕ} → Stays base stack stack
 untouched = record { below = refl; long = refl }
 
-pub stored : (stack : List ℕ) (base depth v : ℕ) → base ≤ depth → Stays base stack (set stack depth v)
+stored : (stack : List ℕ) (base depth v : ℕ) → base ≤ depth → Stays base stack (set stack depth v)
 stored stack base depth v h = record { below = take-set-le base stack depth v h; long = length-set stack depth v }
 
 pub stays-then : {base : ℕ} {old mid new : List ℕ} → Stays base old mid → Stays base mid new → Stays base old new
 stays-then x y = record { below = y .below ∙ x .below; long = y .long ∙ x .long }
 
+-- What stays up to depth stays up to a lower base, and so does what is pending between them.
 module _ (base depth : ℕ) {old new : List ℕ} (h : base ≤ depth) (e : Stays depth old new) where
   pub stays-below : Stays base old new
   stays-below =
@@ -49,12 +50,12 @@ module _ (base depth : ℕ) {old new : List ℕ} (h : base ≤ depth) (e : Stays
   waiting-stays = newest-stays (depth - base) (omega arith)
 
 -- One more, and one less.
-module _ (stack : List ℕ) (base depth : ℕ) where
-  one-over : base ≤ depth → waiting stack base (depth + 1) ≡ getD stack depth 0 ∷ waiting stack base depth
-  one-over h =
-      let e : depth + 1 - base ≡ suc (depth - base) = omega arith in
-      let f : base + (depth - base) ≡ depth = omega arith in
-      rw (e, f)
+one-over : (stack : List ℕ) (base depth : ℕ) → base ≤ depth
+    → waiting stack base (depth + 1) ≡ getD stack depth 0 ∷ waiting stack base depth
+one-over stack base depth h =
+    let e : depth + 1 - base ≡ suc (depth - base) = omega arith in
+    let f : base + (depth - base) ≡ depth = omega arith in
+    rw (e, f)
 
 one-more : (stack : List ℕ) (base depth v : ℕ) → base ≤ depth → depth < length stack
     → waiting (set stack depth v) base (depth + 1) ≡ v ∷ waiting stack base depth
@@ -71,44 +72,27 @@ one-less stack base depth h ne =
     let e : depth - 1 + 1 ≡ depth = omega arith in
     rw e at (one-over stack base (depth - 1) (omega arith))
 
--- What each action leaves pending.
+-- What each action leaves pending, where l is pending before it.
 module _ {a : Action} (s : Step) (stack : List ℕ) (base depth : ℕ) where
-  acting : {b : Action} {new : List ℕ} {next : Next} → a ≡ b → GoesOn b s stack base depth new next
-      → GoesOn a s stack base depth new next
-  acting {new = new} {next = next} e h = subst (λ (c : Action). GoesOn c s stack base depth new next) (sym e) h
+  acting : {b : Action} {l new : List ℕ} {next : Next} → a ≡ b → waiting stack base depth ≡ l
+      → next .position ≡ onward (actionFrom b) (s .dependent) (s .continuation) l .position
+      → waiting new base (next .depth) ≡ onward (actionFrom b) (s .dependent) (s .continuation) l .pending → base ≤ next .depth
+      → Stays base stack new → GoesOn a s stack base depth new next
+  acting e f position rest above stays = record { position = rw (e, f) position; rest = rw (e, f) rest; above = above; stays = stays }
 
   pub ending : {g : ℕ} → a ≡ Take g → depth ≡ base
       → GoesOn a s stack base depth stack (record { position = s .dependent; depth = depth })
-  ending {g} e f = let none : [] ≡ waiting stack base depth = rw f (sym (none-waiting stack base)) in
-      acting e
-      (record {
-        position = ap (λ (l : List ℕ). onward (grammar.Take g) (s .dependent) (s .continuation) l .position) none;
-        rest = sym none ∙ ap (λ (l : List ℕ). onward (grammar.Take g) (s .dependent) (s .continuation) l .pending) none;
-        above = omega arith;
-        stays = untouched;
-      })
+  ending e f = let none : waiting stack base depth ≡ [] = rw f (none-waiting stack base) in
+      acting e none refl none (omega arith) untouched
 
   pub taking : {g x : ℕ} → a ≡ Take g → base ≤ depth → (depth ≡ base → ⊥) → x ≡ getD stack (depth - 1) 0
       → GoesOn a s stack base depth stack (record { position = x; depth = depth - 1 })
-  taking {g} e h ne f = let less = sym (one-less stack base depth h ne) in
-      acting e
-      (record {
-        position = f ∙ ap (λ (l : List ℕ). onward (grammar.Take g) (s .dependent) (s .continuation) l .position) less;
-        rest = ap (λ (l : List ℕ). onward (grammar.Take g) (s .dependent) (s .continuation) l .pending) less;
-        above = omega arith;
-        stays = untouched;
-      })
+  taking e h ne f = acting e (one-less stack base depth h ne) f refl (omega arith) untouched
 
   pub keeping : a ≡ Keep → base ≤ depth → GoesOn a s stack base depth stack (record { position = s .dependent; depth = depth })
-  keeping e h = acting e (record { position = refl; rest = refl; above = h; stays = untouched })
+  keeping e h = acting e refl refl refl h untouched
 
   pub giving : {g : ℕ} → a ≡ Give g → base ≤ depth → depth < length stack
       → GoesOn a s stack base depth (set stack depth (s .continuation)) (record { position = s .dependent; depth = depth + 1 })
   giving e h l =
-      acting e
-      (record {
-        position = refl;
-        rest = one-more stack base depth (s .continuation) h l;
-        above = omega arith;
-        stays = stored stack base depth (s .continuation) h;
-      })
+      acting e refl refl (one-more stack base depth (s .continuation) h l) (omega arith) (stored stack base depth (s .continuation) h)

@@ -48,7 +48,7 @@ pub record StepOf (chart : List ℕ) (m : ℕ) (s : Step) : Type 0 where
   pub continuation : s .continuation ≡ wordAt chart (16 * m + 12)
   pub narrow : s .continuation < 65536
 
--- What is pending between base and depth, newest first.
+-- The n entries of the stack from base on, newest first; and what is pending from base to depth.
 abbrev pub newestFirst : List ℕ → ℕ → ℕ → List ℕ
 newestFirst stack base zero = []
 newestFirst stack base (suc n) = getD stack (base + n) 0 ∷ newestFirst stack base n
@@ -61,14 +61,14 @@ pub record Stays (base : ℕ) (old new : List ℕ) : Type 0 where
   pub below : take base new ≡ take base old
   pub long : length new ≡ length old
 
--- The stack has a place for one more, and that is a position.
+-- What is pending stands on the stack with a place for one more, and the step's continuation fits there.
 pub record Fits (stack : List ℕ) (base depth : ℕ) (s : Step) : Type 0 where
   pub whole : length stack ≡ 24
   pub above : base ≤ depth
   pub free : depth < 24
   pub narrow : s .continuation < 65536
 
--- A spine goes on as the definition says.
+-- A spine goes on as the definition says, and what stands below its base stays.
 pub record GoesOn (a : Action) (s : Step) (old : List ℕ) (base depth : ℕ) (new : List ℕ) (next : Next) : Type 0 where
   pub position : next .position ≡ onward (actionFrom a) (s .dependent) (s .continuation) (waiting old base depth) .position
   pub rest : waiting new base (next .depth) ≡ onward (actionFrom a) (s .dependent) (s .continuation) (waiting old base depth) .pending
@@ -87,8 +87,8 @@ pub record Ready (card words chart : List ℕ) (count m : ℕ) (s pending : List
   pub inside : m < count
   pub pends : Pends (chartIn chart count) (footThere chart m) s pending
 
--- What an unfolding asks: such a record, for some words and some stack, a place on the lent stack above base for each of its words, and
--- room for its plan.
+-- What an unfolding asks: such a record, for some words and some stack of indices, a place on the lent stack above base for each of
+-- its words, and room for its plan.
 pub record Asked (card chart : List ℕ) (m : ℕ) (pending stack : List ℕ) (base : ℕ) (plan : List ℕ) (at : ℕ) : Type 0 where
   pub words : List ℕ
   pub count : ℕ

@@ -2,14 +2,13 @@
 use Prim.Native.Nat.{ℕ, _+_, _*_, _≤_, _<_}
 use mathlib.Core.Path.{_≡_}
 use mathlib.Core.List.{List, _++_}
-use lib.ListN.{length, take, drop}
+use lib.ListN.{length, drop}
 use Rattle.grammar.specs.Lists.{Stands}
-use Rattle.grammar.specs.Rewriting.{nonterminal, Rule}
 use Rattle.grammar.specs.Input.{Holds, wordIs}
-use Rattle.grammar.specs.Items.{Foot, bare}
+use Rattle.grammar.specs.Items.{bare}
 use Rattle.grammar.specs.ItemList.{item}
 use Rattle.grammar.specs.Chart.{Record, Justified, itemOf}
-use Rattle.grammar.specs.Plan.{PlanStep, Yields, LeftmostDerivation}
+use Rattle.grammar.specs.Plan.{PlanStep, LeftmostDerivation}
 use Rattle.layout.specs.Card.{grammarOf}
 use Rattle.layout.specs.Records.{recordAt, chartIn}
 use Rattle.layout.specs.Steps.{planBytes, planRoom}

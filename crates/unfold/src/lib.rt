@@ -80,8 +80,9 @@ fn onward(a: Action, s: Step, stack: &mut [u16; 24], base: usize, depth: usize) 
                 };
             }
             let last = depth - 1;
+            let waiting = wide16(stack[last]);
             Next {
-                position: wide16(stack[last]),
+                position: waiting,
                 depth: last,
             }
         }
@@ -91,9 +92,10 @@ fn onward(a: Action, s: Step, stack: &mut [u16; 24], base: usize, depth: usize) 
         },
         Action::Give(_) => {
             stack[depth] = s.continuation as u16;
+            let deeper = depth + 1;
             Next {
                 position: s.dependent,
-                depth: depth + 1,
+                depth: deeper,
             }
         }
     }
@@ -128,8 +130,9 @@ fn side(
     spine(card, chart, plan, m, stack, depth, depth, at)
 }
 
-// The step of the record at position m, and then its two parts, leftmost first. A side that comes first has its own part of the stack
-// above what is pending; one that comes last finds nothing pending any more.
+// The step of the record at position m, and then its two parts, leftmost first. A side that comes first has its place on the stack
+// above what is pending; one that comes last finds nothing pending any more. A stack is less deep than its stretch is long, so a
+// place for each word of a line is enough.
 fn spine(
     card: &[u8],
     chart: &[u8],

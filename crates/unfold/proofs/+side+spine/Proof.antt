@@ -147,7 +147,7 @@ spine-side-requires t c κs =
     let (k, parts) = first-parts gone (asked .ready) refl in (
       omega (arith, own .0, first-shorter parts),
       first-asked parts (asked .room) (put .put-step2 .ensures) (goes .stays .long ∙ asked .whole)
-          (first-above parts _ refl (goes .above) (asked .short)),
+          (omega (arith, goes .above, first-above parts _ refl (goes .above) (asked .short))),
     )
 
 spine-spine-requires : (t : ℕ) → spine-lts.Need-spine-requires (called t) (spine-at t) spine.Post

@@ -5,7 +5,6 @@ use native.Mathlib.Omega.{arith}
 use borrow.Author.Needs.{needs}
 use Rattle.unfold.proofs.onward.Statement.{statement}
 use Rattle.unfold.proofs.onward.Tie as tie
-use Rattle.unfold.proofs.wide16.Reads as wide16-reads
 
 enum-told : tie.Need-enum-told
 enum-told c = search needs
@@ -40,8 +39,8 @@ mul-stack c = search needs
 element-write-stack : tie.Need-element-write-stack
 element-write-stack c = search needs
 
-add-t15 : tie.Need-add-t15
-add-t15 c = search needs
+add-deeper : tie.Need-add-deeper
+add-deeper c = search needs
 
 returns-2 : tie.Need-returns-2
 returns-2 c =
@@ -70,7 +69,7 @@ onward-spec =
     cast-stack
     mul-stack
     element-write-stack
-    add-t15
+    add-deeper
     returns-2
     returns-3
     returns-4)
