@@ -1,2 +1,3 @@
 pub mod Counts
+pub mod Numbers
 pub mod Productions

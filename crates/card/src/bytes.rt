@@ -1,9 +1,11 @@
 // Bytes of a slice, and tests of all of them.
 ghost use mathlib.Core.Path.{_≡_};
-ghost use Prim.Native.Nat.{_<_};
+ghost use Prim.Native.Nat.{_<_, _≤_, _+_};
 ghost use lib.Dec.{eqb};
+ghost use lib.ListN.{length, take, drop};
 ghost use Rattle.layout.specs.Bytes.{byteAt, isLetter, sameBytes, allBytes};
 ghost use Rattle.layout.specs.Card as layout;
+ghost use Rattle.card.specs.Numbers.{numberOf};
 
 // The byte at a place, 0 past the end.
 pub fn byte(s: &[u8], k: usize) -> u8
@@ -88,4 +90,26 @@ pub fn same_bytes(a: &[u8], b: &[u8]) -> bool
         i += 1;
     }
     true
+}
+
+// Two, four and eight bytes as one number, the first lowest.
+pub fn two(s: &[u8], at: usize) -> u64
+    requires { ⌜ at + 2 ≤ length (now s) ⌝ }
+    ensures { λ r. ⌜ r ≡ numberOf (take 2 (drop at (now (s .entry)))) ⌝ }
+{
+    (s[at] as u64) + 256 * (s[at + 1] as u64)
+}
+
+pub fn four(s: &[u8], at: usize) -> u64
+    requires { ⌜ at + 4 ≤ length (now s) ⌝ }
+    ensures { λ r. ⌜ r ≡ numberOf (take 4 (drop at (now (s .entry)))) ⌝ }
+{
+    two(s, at) + 65536 * two(s, at + 2)
+}
+
+pub fn eight(s: &[u8], at: usize) -> u64
+    requires { ⌜ at + 8 ≤ length (now s) ⌝ }
+    ensures { λ r. ⌜ r ≡ numberOf (take 8 (drop at (now (s .entry)))) ⌝ }
+{
+    four(s, at) + 4294967296 * four(s, at + 4)
 }
