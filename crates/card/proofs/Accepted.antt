@@ -4,7 +4,7 @@ use Prim.Native.Nat.{ℕ, _+_, _-_, _<_, _≤_}
 use native.Mathlib.Nat.{add-sub-cancel-left}
 use native.Mathlib.Omega.{arith}
 use mathlib.Core.Path.{_≡_, refl, sym, _∙_}
-use mathlib.Core.Bool.{Bool, true, false, _&&_, false≢true}
+use mathlib.Core.Bool.{Bool, true, false}
 use mathlib.Core.List.{List, []}
 use borrow.Author.Tests.{eqb-true, eqb-false, ltb-true, eq-eqb, ne-eqb, lt-ltb, le-ltb, lt-leb, le-leb}
 use lib.Dec.{eqb, ltb, lit<}
@@ -15,7 +15,7 @@ use Rattle.layout.specs.Card.{markFits, countsFit, lengthsFit, entryFits, entri
 use Rattle.layout.specs.Answers.{nameNumber, namePart}
 use Rattle.card.specs.declared.Card.{Card}
 use Rattle.card.specs.Counts.{CountsOf, countsWithin}
-use Rattle.card.proofs.Laws.{within-most, below-all}
+use Rattle.card.proofs.Laws.{first, second, within-most, below-all}
 
 -- The mark, by what was compared.
 pub no-header : (card : List ℕ) → length card < 12 → false ≡ markFits card
@@ -23,15 +23,6 @@ no-header card h = rw (lt-leb 12 (length card) h)
 
 pub mark-same : (card bytes : List ℕ) {t : Bool} → 12 ≤ length card → t ≡ sameBytes (take 4 card) bytes → bytes ≡ mark → t ≡ markFits card
 mark-same card bytes h same e = rw (le-leb 12 (length card) h, ← e) same
-
--- The parts of a chain of tests that holds.
-first : {a : Bool} (b : Bool) → (a && b) ≡ true → a ≡ true
-first {a = true} b h = refl
-first {a = false} b h = absurd (false≢true h)
-
-second : (a : Bool) {b : Bool} → (a && b) ≡ true → b ≡ true
-second true h = h
-second false h = absurd (false≢true h)
 
 pub counts-same : {card : List ℕ} {c : Card} → CountsOf card c
     → countsWithin (c .nonterminals) (c .words) (c .indices) (c .productions) ≡ countsFit card

@@ -3,16 +3,16 @@
 use Prim.Native.Nat.{ℕ, zero, suc, _+_, _-_, _<_, _≤_}
 use native.Mathlib.Omega.{arith}
 use native.Mathlib.Decide.{ℕ-discrete}
-use mathlib.Core.Path.{_≡_, refl, sym, _∙_, ap}
-use mathlib.Core.Bool.{Bool, true, false, not, _&&_, false≢true}
-use mathlib.Core.List.{List, [], _∷_}
-use borrow.Author.Tests.{not-true, not-false, leb-true, eq-eqb, ne-eqb}
+use mathlib.Core.Path.{_≡_, refl, sym, _∙_, ap, ap₂}
+use mathlib.Core.Bool.{Bool, true, false, not, _&&_, and-assoc, false≢true}
+use mathlib.Core.List.{List, [], _∷_, _++_}
+use borrow.Author.Tests.{not-true, not-false, leb-true, eqb-true, eq-eqb, ne-eqb}
 use lib.Dec.{eqb, leb}
 use lib.ListN.{length, getD, take, drop}
 use lib.Seq.{take-nil, drop-drop}
 use native.Mathlib.Nat.{sub-zero, zero-sub, suc-sub-suc, add-sub-cancel-left}
 use Rattle.layout.specs.Bytes.{byteAt, isLetter, sameBytes, allBytes, allBelow}
-use Rattle.layout.specs.Card.{entryAt, entryOf, entryFits, within}
+use Rattle.layout.specs.Card.{entryAt, entryFits, within}
 
 -- A test that was made by a function: its answer t is the definition's b.
 pub refused : {t b : Bool} → t ≡ b → not t ≡ true → b ≡ false
@@ -25,6 +25,15 @@ passed {t} e h = sym e ∙ not-false t h
 no-later : (t : Bool) {b : Bool} → false ≡ b → false ≡ (t && b)
 no-later true h = h
 no-later false h = refl
+
+-- The parts of a chain of tests that holds.
+pub first : {a : Bool} (b : Bool) → (a && b) ≡ true → a ≡ true
+first {a = true} b h = refl
+first {a = false} b h = absurd (false≢true h)
+
+pub second : (a : Bool) {b : Bool} → (a && b) ≡ true → b ≡ true
+second true h = h
+second false h = absurd (false≢true h)
 
 -- Of every byte.
 pub all-bytes : (test : ℕ → Bool) (l : List ℕ) → ((k : ℕ) → k < length l → test (getD l k 0) ≡ true) → true ≡ allBytes test l
@@ -55,6 +64,21 @@ same-length [] [] h = absurd (h refl)
 same-length [] (y ∷ b) h = refl
 same-length (x ∷ a) [] h = refl
 same-length (x ∷ a) (y ∷ b) h = no-later (eqb x y) (same-length a b λ e. h (ap suc e))
+
+pub same-self : (a : List ℕ) → sameBytes a a ≡ true
+same-self a = sym (same-all a a refl λ k lt. refl)
+
+pub same-equal : (a b : List ℕ) → sameBytes a b ≡ true → a ≡ b
+same-equal [] [] h = refl
+same-equal [] (y ∷ b) h = absurd (false≢true h)
+same-equal (x ∷ a) [] h = absurd (false≢true h)
+same-equal (x ∷ a) (y ∷ b) h = ap₂ _∷_ (eqb-true x y (first (sameBytes a b) h)) (same-equal a b (second (eqb x y) h))
+
+pub same-append : (a b a′ b′ : List ℕ) → length a ≡ length b → sameBytes (a ++ a′) (b ++ b′) ≡ (sameBytes a b && sameBytes a′ b′)
+same-append [] [] a′ b′ e = refl
+same-append [] (y ∷ b) a′ b′ e = absurd (omega arith)
+same-append (x ∷ a) [] a′ b′ e = absurd (omega arith)
+same-append (x ∷ a) (y ∷ b) a′ b′ e = rw (and-assoc, same-append a b a′ b′ (omega arith))
 
 -- Of every number below n.
 pub all-below : (n : ℕ) (test : ℕ → Bool) → ((v : ℕ) → v < n → test v ≡ true) → true ≡ allBelow n test
@@ -88,9 +112,6 @@ drop-take (suc m) n [] = rw (take-nil n, take-nil)
 drop-take (suc m) zero (b ∷ l) = rw zero-sub
 drop-take (suc m) (suc n) (b ∷ l) = rw suc-sub-suc (drop-take m n l)
 
-pub entry-part : (card : List ℕ) (v at : ℕ) → at ≡ entryAt v → take (at + 12 - at) (drop at card) ≡ entryOf card v
-entry-part card v at e = rw (add-sub-cancel-left, e)
-
 spelling-part : (card : List ℕ) (at n : ℕ) → take (at + 1 + n - (at + 1)) (drop (at + 1) card) ≡ take n (drop (at + 1) card)
 spelling-part card at n = rw add-sub-cancel-left
 
@@ -123,8 +144,4 @@ module _ (card : List ℕ) (v at n : ℕ) (place : at ≡ entryAt v) (length-byt
 
 -- What a test of a number's limits says.
 pub within-most : (low high x : ℕ) → within low high x ≡ true → x ≤ high
-within-most low high x h = leb-true x high (go (leb low x) h)
-  where
-    go : (t : Bool) → (t && leb x high) ≡ true → leb x high ≡ true
-    go true e = e
-    go false e = absurd (false≢true e)
+within-most low high x h = leb-true x high (second (leb low x) h)

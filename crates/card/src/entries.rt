@@ -3,7 +3,8 @@ use crate::Card;
 use crate::bytes::all_letters;
 use crate::bytes::all_zero;
 use crate::bytes::byte;
-use crate::bytes::same_bytes;
+use crate::bytes::eight;
+use crate::bytes::four;
 use crate::bytes::wide;
 use crate::bytes::within;
 ghost use mathlib.Core.Path.{_≡_};
@@ -46,13 +47,17 @@ pub fn entries_fit(card: &[u8]) -> bool
     true
 }
 
+// The 12 bytes as two numbers.
 pub fn entries_equal(card: &[u8], u: usize, v: usize) -> bool
     requires { ⌜ (u < v) × (v < 256) × (entryAt v + 12 ≤ length (now card)) ⌝ }
     ensures { λ r. ⌜ r ≡ sameBytes (entryOf (now (card .entry)) u) (entryOf (now (card .entry)) v) ⌝ }
 {
     let a = Card::entry_at(u);
     let b = Card::entry_at(v);
-    same_bytes(&card[a..a + Card::ENTRY], &card[b..b + Card::ENTRY])
+    if eight(card, a) != eight(card, b) {
+        return false;
+    }
+    four(card, a + 8) == four(card, b + 8)
 }
 
 pub fn entry_is_new(card: &[u8], v: usize) -> bool

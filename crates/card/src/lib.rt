@@ -10,7 +10,7 @@ use bytes::wide;
 use bytes::within;
 ghost use mathlib.Core.Path.{_≡_};
 ghost use Prim.Native.Nat.{_<_, _+_, _*_};
-ghost use Rattle.layout.specs.Card.{entryAt, production, cardNumber};
+ghost use Rattle.layout.specs.Card.{entryAt, productionCount, production, cardNumber};
 ghost use Rattle.layout.specs.Answers.{nameNumber, namePart};
 ghost use Rattle.card.specs.Counts.{CountsOf, countsWithin};
 ghost use Rattle.card.specs.Productions.{ruleFrom};
@@ -162,6 +162,21 @@ pub fn decode(card: &[u8], m: u8) -> Production
 {
     let f = productions::fields_of(card, wide(m));
     productions::production_of(f.kind, f.a, f.b, f.c, f.g)
+}
+
+// Production m of an accepted card.
+pub fn production_in(card: &[u8], m: usize) -> Production
+    requires { ⌜ (cardNumber (now card) ≡ 0) × (m < productionCount (now card)) ⌝ }
+    ensures { λ r. ⌜ ruleFrom r ≡ production (now (card .entry)) m ⌝ }
+{
+    let at = Card::WORD_TABLE + Card::ENTRY * wide(card[5]) + Card::PRODUCTION * m;
+    productions::production_of(
+        card[at],
+        card[at + 1],
+        card[at + 2],
+        card[at + 3],
+        card[at + 4],
+    )
 }
 
 // The card's refusals, then 35 for a word that the card does not have.

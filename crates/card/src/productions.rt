@@ -5,8 +5,10 @@ use crate::Production;
 use crate::bytes::byte;
 use crate::bytes::within;
 ghost use mathlib.Core.Path.{_≡_};
-ghost use Prim.Native.Nat.{_<_};
-ghost use Rattle.layout.specs.Card.{ruleOf, wordProductionFits, indexFits, pairFits, kindFits, productionFits, productionsFit};
+ghost use Prim.Native.Nat.{_<_, _≤_, _+_};
+ghost use lib.ListN.{length};
+ghost use Rattle.layout.specs.Card.{wordCount, productionAt, cardLength, ruleOf};
+ghost use Rattle.layout.specs.Card.{wordProductionFits, indexFits, pairFits, kindFits, productionFits, productionsFit};
 ghost use Rattle.card.specs.Productions.{ruleFrom, FieldsOf};
 
 // The six bytes of a production.
@@ -31,6 +33,22 @@ pub fn fields_of(card: &[u8], m: usize) -> Fields
         c: byte(card, at + 3),
         g: byte(card, at + 4),
         last: byte(card, at + 5),
+    }
+}
+
+// The same within a card whose count of words is at hand.
+pub fn fields_in(card: &[u8], words: usize, m: usize) -> Fields
+    requires { ⌜ (words ≡ wordCount (now card)) × (productionAt (now card) m + 6 ≤ length (now card)) ⌝ }
+    ensures { λ r. ⌜ FieldsOf (now (card .entry)) m r ⌝ }
+{
+    let at = Card::WORD_TABLE + Card::ENTRY * words + Card::PRODUCTION * m;
+    Fields {
+        kind: card[at],
+        a: card[at + 1],
+        b: card[at + 2],
+        c: card[at + 3],
+        g: card[at + 4],
+        last: card[at + 5],
     }
 }
 
@@ -91,11 +109,11 @@ pub fn kind_fits(card: &[u8], kind: u8, a: u8, b: u8, c: u8, g: u8) -> bool
     pair_fits(card, a, b, c, index_fits(card, kind, g))
 }
 
-pub fn production_fits(card: &[u8], m: usize) -> bool
-    requires { ⌜ m < 256 ⌝ }
+pub fn production_fits(card: &[u8], words: usize, m: usize) -> bool
+    requires { ⌜ (words ≡ wordCount (now card)) × (productionAt (now card) m + 6 ≤ length (now card)) ⌝ }
     ensures { λ r. ⌜ r ≡ productionFits (now (card .entry)) m ⌝ }
 {
-    let f = fields_of(card, m);
+    let f = fields_in(card, words, m);
     if f.last != 0 {
         return false;
     }
@@ -103,12 +121,14 @@ pub fn production_fits(card: &[u8], m: usize) -> bool
 }
 
 pub fn productions_fit(card: &[u8]) -> bool
+    requires { ⌜ cardLength (now card) ≤ length (now card) ⌝ }
     ensures { λ r. ⌜ r ≡ productionsFit (now (card .entry)) ⌝ }
 {
     let count = Card::of(card).productions;
+    let words = Card::of(card).words;
     let mut m = 0;
     while m < count {
-        if !production_fits(card, m) {
+        if !production_fits(card, words, m) {
             return false;
         }
         m += 1;
@@ -144,13 +164,20 @@ fn side_last(left: u8, action: Action, b: u8, c: u8) -> Production
 pub fn production_of(kind: u8, left: u8, b: u8, c: u8, g: u8) -> Production
     ensures { λ r. ⌜ ruleFrom r ≡ ruleOf kind left b c g ⌝ }
 {
-    match kind {
-        0 => Production::Word { left, word: b },
-        1 => side_first(left, Action::Take(g), b, c),
-        2 => side_last(left, Action::Take(g), b, c),
-        3 => side_first(left, Action::Keep, b, c),
-        4 => side_last(left, Action::Keep, b, c),
-        5 => side_first(left, Action::Give(g), b, c),
-        _ => side_last(left, Action::Give(g), b, c),
+    if kind == 0 {
+        return Production::Word { left, word: b };
     }
+    if 5 < kind {
+        return side_last(left, Action::Give(g), b, c);
+    }
+    let mut action = Action::Give(g);
+    if kind <= 2 {
+        action = Action::Take(g);
+    } else if kind <= 4 {
+        action = Action::Keep;
+    }
+    if kind % 2 == 1 {
+        return side_first(left, action, b, c);
+    }
+    side_last(left, action, b, c)
 }

@@ -1,5 +1,5 @@
 -- `card_number`: each return has the first test of the cascade that fails, with those before it passed.
--- The entries' tests need room for the word table, which the length's test has shown.
+-- The tests of the tables need room for them, which the length's test has shown.
 use native.Mathlib.Omega.{arith}
 use mathlib.Core.Bool.{true}
 use mathlib.Core.List.{List}
@@ -74,7 +74,8 @@ entries-differ-requires c κs =
     let room = length-fits (card-3 (c .before)) (measured (c .before)) in omega arith
 
 productions-fit-requires : tie.Need-productions-fit-requires
-productions-fit-requires c κs = search needs
+productions-fit-requires c κs =
+    let room = length-fits (card-3 (c .before .before)) (measured (c .before .before)) in omega arith
 
 returns-4 : tie.Need-returns-4
 returns-4 c =

@@ -1,10 +1,11 @@
--- `entries::entries_equal`: the two parts of the card that are compared are the two entries.
--- An entry that starts at its place and has 12 bytes is the definition's.
-use mathlib.Core.Path.{_∙_, ap₂}
+-- `entries::entries_equal`: an entry is its first eight bytes and the four after them.
+-- As many bytes are the same where their numbers are, so the eights decide where they differ, and else the fours.
+use Prim.Native.Nat.{_+_}
+use native.Mathlib.Omega.{arith}
+use mathlib.Core.Path.{_∙_}
 use borrow.Author.Needs.{needs}
 use denote.Ref.{now}
-use Rattle.layout.specs.Bytes.{sameBytes}
-use Rattle.card.proofs.Laws.{entry-part}
+use Rattle.card.proofs.NumberLaws.{AreBytes, same-part, other-parts, rest-decides}
 use Rattle.card.proofs.entries.entries_equal.Statement.{statement}
 use Rattle.card.proofs.entries.entries_equal.Tie as tie
 
@@ -14,41 +15,50 @@ entry-at-requires c κs = search needs
 entry-at-requires-2 : tie.Need-entry-at-requires-2
 entry-at-requires-2 c κs = search needs
 
-add-same-bytes : tie.Need-add-same-bytes
-add-same-bytes c = search needs
+eight-requires : tie.Need-eight-requires
+eight-requires c κs = search needs
 
-sub-same-bytes : tie.Need-sub-same-bytes
-sub-same-bytes c = search needs
+eight-requires-2 : tie.Need-eight-requires-2
+eight-requires-2 c κs = search needs
 
-part-same-bytes-start : tie.Need-part-same-bytes-start
-part-same-bytes-start c = search needs
-
-part-same-bytes-end : tie.Need-part-same-bytes-end
-part-same-bytes-end c = search needs
-
-add-same-bytes-2 : tie.Need-add-same-bytes-2
-add-same-bytes-2 c = search needs
-
-sub-same-bytes-2 : tie.Need-sub-same-bytes-2
-sub-same-bytes-2 c = search needs
-
-part-same-bytes-start-2 : tie.Need-part-same-bytes-start-2
-part-same-bytes-start-2 c = search needs
-
-part-same-bytes-end-2 : tie.Need-part-same-bytes-end-2
-part-same-bytes-end-2 c = search needs
-
-same-bytes-requires : tie.Need-same-bytes-requires
-same-bytes-requires c κs = search needs
+bytes : (c : tie.After-eight2) → AreBytes (now (c .before .before .before .before .before .args .card))
+bytes c k = c .before .before .before .before .shared-slice-known .given k .fits
 
 returns : tie.Need-returns
 returns c =
-    let a = c .before .before .before .before .before .before .args in
-    let card = now (a .card) in
-    let first = c .before .before .before .before .entry-at in
-    let second = c .before .before .before .entry-at2 in
-    c .same-bytes .ensures
-    ∙ ap₂ sameBytes (entry-part card (a .u) (first .result) (first .ensures)) (entry-part card (a .v) (second .result) (second .ensures))
+    let on = c .before in
+    let card = now (c .before .before .before .before .before .before .args .card) in
+    let first = on .before .before .before .entry-at in
+    let second = on .before .before .entry-at2 in
+    let other =
+    other-parts card (bytes on) (first .result) (second .result) 8 (omega arith) (omega arith) (on .before .eight .ensures) (on .eight2 .ensures) 4
+    (c .if1 .taken) in
+    rw (first .ensures, second .ensures) at other
+
+add-four : tie.Need-add-four
+add-four c = search needs
+
+four-requires : tie.Need-four-requires
+four-requires c κs = search needs
+
+add-four-2 : tie.Need-add-four-2
+add-four-2 c = search needs
+
+four-requires-2 : tie.Need-four-requires-2
+four-requires-2 c κs = search needs
+
+returns-2 : tie.Need-returns-2
+returns-2 c =
+    let on = c .before .before .before in
+    let card = now (on .before .before .before .before .before .args .card) in
+    let first = on .before .before .before .entry-at in
+    let second = on .before .before .entry-at2 in
+    let fours =
+    same-part card (bytes on) (first .result + 8) (second .result + 8) 4 (omega arith) (omega arith) (c .before .four .ensures) (c .four2 .ensures) in
+    let rest =
+    rest-decides card (bytes on) (first .result) (second .result) 8 (omega arith) (omega arith) (on .before .eight .ensures) (on .eight2 .ensures) 4
+    (c .before .before .if1 .left) in
+    rw (first .ensures, second .ensures) at (fours ∙ rest)
 
 pub entries-equal-spec : {M : Type 1} → statement M
 entries-equal-spec =
@@ -56,13 +66,11 @@ entries-equal-spec =
     (tie.spec
     entry-at-requires
     entry-at-requires-2
-    add-same-bytes
-    sub-same-bytes
-    part-same-bytes-start
-    part-same-bytes-end
-    add-same-bytes-2
-    sub-same-bytes-2
-    part-same-bytes-start-2
-    part-same-bytes-end-2
-    same-bytes-requires
-    returns)
+    eight-requires
+    eight-requires-2
+    returns
+    add-four
+    four-requires
+    add-four-2
+    four-requires-2
+    returns-2)
