@@ -98,6 +98,9 @@ accepted card z =
     let table = held (productionsFit card) z (number-16 card marked counted measured fit differ) (lit< tt) in
     record { marked = marked; counted = counted; measured = measured; fit = fit; differ = differ; table = table }
 
+pub accepted-length : (card : List ℕ) → cardNumber card ≡ 0 → length card ≡ cardLength card
+accepted-length card z = length-fits card (accepted card z .measured)
+
 -- A word that Name answers with 0.
 pub record Known (card : List ℕ) (word : ℕ) : Type 0 where
   pub room : length card ≡ cardLength card

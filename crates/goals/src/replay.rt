@@ -1,6 +1,5 @@
 // A plan is replayed on goals (specs/Goals.antt): the nonterminals that are still to be replaced, leftmost on top.
 use card::Action;
-use card::Card;
 use card::Production;
 use card::bytes::wide;
 ghost use mathlib.Core.Path.{_≡_};
@@ -8,7 +7,7 @@ ghost use mathlib.Core.Bool.{_&&_};
 ghost use Prim.Native.Nat.{_<_, _≤_, _+_, _-_};
 ghost use lib.ListN.{length, take};
 ghost use Rattle.grammar.specs.Input.{wordIs};
-ghost use Rattle.layout.specs.Card.{grammarOf};
+ghost use Rattle.layout.specs.Card.{grammarOf, cardNumber};
 ghost use Rattle.layout.specs.Steps.{stepsOf};
 ghost use lib.Dec.{ltb};
 ghost use Rattle.grammar.specs.Rewriting.{Lexical};
@@ -253,7 +252,7 @@ fn advance(
     bases: &mut [usize; 25],
     stack: &mut [u8; 25],
 ) -> Turn
-    requires { ⌜ Within (now bases) stand ⌝ }
+    requires { ⌜ (cardNumber (now card) ≡ 0) × Within (now bases) stand ⌝ }
     ensures { λ r. ⌜ Advanced (now (card .entry)) (now (words .entry)) step (now (names .entry)) (now (ends .entry)) (now (bases .entry)) (now (stack .entry)) stand (now (names .exit)) (now (ends .exit)) (now (bases .exit)) (now (stack .exit)) r ⌝ }
 {
     if stand.count == 0 {
@@ -267,10 +266,11 @@ fn advance(
     if wide(step.end) != top.end {
         return Turn::Stuck;
     }
-    if Card::of(card).productions <= wide(step.number) {
+    // The card's count of productions.
+    if wide(card[7]) <= wide(step.number) {
         return Turn::Stuck;
     }
-    let production = card::decode(card, step.number);
+    let production = card::production_in(card, wide(step.number));
     let split = wide(step.split);
     if !fits(production, top, split, words[place]) {
         return Turn::Stuck;
@@ -293,7 +293,7 @@ pub fn step_at(plan: &[u8], at: usize) -> Step
 // Does the plan, all its bytes, derive the line of `n` words? The first step that cannot stand ends it. There are never more goals or
 // indices than words, and the arrays have an entry more, so that the next one's place is always there.
 pub fn replay(card: &[u8], words: &[u8; 24], n: usize, plan: &[u8]) -> bool
-    requires { ⌜ (0 < n) × (n ≤ 24) × (n ≤ length (now words)) ⌝ }
+    requires { ⌜ (cardNumber (now card) ≡ 0) × (0 < n) × (n ≤ 24) × (n ≤ length (now words)) ⌝ }
     ensures { λ r. ⌜ r ≡ model.replayFrom (grammarOf (now (card .entry))) (wordIs (take n (now (words .entry)))) (model.goalsStart n) (stepsOf (now (plan .entry))) ⌝ }
 {
     let mut names = [0u8; 25];

@@ -13,7 +13,7 @@ use borrow.Author.Tests.{eq-eqb, ne-eqb, lt-ltb, le-ltb}
 use Rattle.grammar.specs.Input.{wordIs}
 use Rattle.grammar.specs.Plan.{PlanStep}
 use Rattle.layout.specs.Bytes.{check}
-use Rattle.layout.specs.Card.{grammarOf}
+use Rattle.layout.specs.Card.{grammarOf, cardNumber}
 use Rattle.layout.specs.Line.{numbersOf}
 use Rattle.layout.specs.Steps.{stepsOf}
 use Rattle.layout.specs.Answers.{inputNumber, wordsIn, lineTest, planPasses, checkNumber, planPairs, pairsWithin, pairsAnswer, pairsAfter}
@@ -21,6 +21,7 @@ use Rattle.layout.proofs.CardLaws.{card-one-sided}
 use Rattle.layout.proofs.Reading.{count-numbers}
 use Rattle.line.specs.Accepted.{Accepts, acceptedCount, acceptedWords}
 use Rattle.line.specs.declared.Accepted.{Accepted}
+use Rattle.line.proofs.AcceptedLaws.{accepted-line}
 use Rattle.goals.specs.Goals.{goalsStart, replayFrom}
 use Rattle.plan.specs.Paired.{Pairs}
 use Rattle.plan.specs.declared.Paired.{Paired}
@@ -48,11 +49,15 @@ module _ (card line : List ℕ) (r : Accepted) (x : Accepts card line r) where
     words-are : r .words ≡ numbersOf card line ++ replicate (24 - wordsIn line) 0
     words-are = x .words ∙ rw accepted
 
-    pub accepted-fits : (0 < r .count) × (r .count ≤ 24) × (r .count ≤ length (r .words))
+    pub accepted-fits : (cardNumber card ≡ 0) × (0 < r .count) × (r .count ≤ 24) × (r .count ≤ length (r .words))
     accepted-fits =
         let (h₁, h₂) = input-words card line input-zero in
-        let e = ap length words-are ∙ length-append (numbersOf card line) (replicate (24 - wordsIn line) 0) in
-        (omega (arith, count-is), omega (arith, count-is), omega (arith, count-is, count-numbers card line))
+        let e = ap length words-are ∙ length-append (numbersOf card line) (replicate (24 - wordsIn line) 0) in (
+          accepted-line card line input-zero .card-accepted,
+          omega (arith, count-is),
+          omega (arith, count-is),
+          omega (arith, count-is, count-numbers card line),
+        )
 
     words-test : take (r .count) (r .words) ≡ numbersOf card line
     words-test =

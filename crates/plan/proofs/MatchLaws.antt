@@ -56,10 +56,10 @@ gives-length (Take γ) place ts xs = omega arith
 gives-length Keep place ts xs = omega arith
 gives-length (Give γ) place ts xs = omega arith
 
--- The rule of a step that passes is the production that the card has at its number.
-rule-decoded : (card : List ℕ) (p : ℕ) {R : Rule} → getElem? (grammarOf card) p ≡ some R → getElem? (grammarOf card) p ≡ some (production card p)
-rule-decoded card p e = elim (decLt p (productionCount card)) [
-  | yes h ↦ rule-there card p h
+-- The number of a step that has a rule is below the card's count.
+rule-below : (card : List ℕ) (p : ℕ) {R : Rule} → getElem? (grammarOf card) p ≡ some R → p < productionCount card
+rule-below card p e = elim (decLt p (productionCount card)) [
+  | yes h ↦ h
   | no h ↦ absurd (none-some (sym (rule-missing card p (omega arith)) ∙ e))
 ]
 
@@ -77,16 +77,20 @@ finish : (room before : List ℕ) (u count : ℕ) (xs P : List Pair) → xs ≡ 
 finish room before u count xs P e t c w = let z : 2 * u ≡ 0 = omega (arith, ap length e) in w ∙ rw (z, e, c)
 
 module _ (card plan : List ℕ) (x : Passed card plan) where
-  step-back : (s : ℕ) (st : Step) (R : Rule) → 4 * s + 4 ≤ length plan → StepAt plan (4 * s) st → R ≡ production card (st .number)
-      → Front (grammarOf card) (st .number) (st .start) (st .split) (drop s (planOf plan)) (drop (suc s) (planOf plan)) R
-  step-back s st R h a r =
-      let g = grammarOf card in
-      let steps = planOf plan in
-      let e = suffix-step plan steps s st (x .bytes) h a in
-      let y : Paced g (stepFrom st ∷ drop (suc s) steps) = rw e at (paced-drop s (x .pace)) in
-      let (R′, d) = paced-rule y in
-      let z = front (rule-decoded card (st .number) d ∙ ap some (sym r)) y in
-      rw e z
+  -- A step in its place: the rest of the plan is paced, and the step's production is one of the card's.
+  module _ (s : ℕ) (st : Step) (h : 4 * s + 4 ≤ length plan) (a : StepAt plan (4 * s) st) where
+    here : drop s (planOf plan) ≡ stepFrom st ∷ drop (suc s) (planOf plan)
+    here = suffix-step plan (planOf plan) s st (x .bytes) h a
+
+    paced-here : Paced (grammarOf card) (stepFrom st ∷ drop (suc s) (planOf plan))
+    paced-here = rw here at (paced-drop s (x .pace))
+
+    pub step-there : st .number < productionCount card
+    step-there = rule-below card (st .number) (paced-rule paced-here .1)
+
+    step-back : (R : Rule) → R ≡ production card (st .number)
+        → Front (grammarOf card) (st .number) (st .start) (st .split) (drop s (planOf plan)) (drop (suc s) (planOf plan)) R
+    step-back R r = rw here (front (rule-there card (st .number) step-there ∙ ap some (sym r)) paced-here)
 
   -- The steps are a quarter of the bytes.
   steps-length : length plan ≡ 4 * length (planOf plan)
@@ -112,7 +116,7 @@ module _ (card plan : List ℕ) (x : Passed card plan) where
   pub counting-turn : (count left : ℕ) → Counting count left → 0 < left → (st : Step) (R : Rule) → StepAt plan (4 * (left - 1)) st
       → R ≡ production card (st .number) → (more : ℕ) → more ≡ oneGive (actionOf R) → more ≤ 1 → Counting (count + more) (left - 1)
   counting-turn count left c h st R a r more m l =
-      let f = step-back (left - 1) st R (omega (arith, c .inPlan)) a r in
+      let f = step-back (left - 1) st (omega (arith, c .inPlan)) a R r in
       let e : suc (left - 1) ≡ left = omega arith in
       let d = ap length (f .pairs) ∙ gives-length (actionOf R) _ _ (matched (grammarOf card) (drop (suc (left - 1)) (planOf plan))) in
       let q = ap (λ (s : ℕ). length (matched (grammarOf card) (drop s (planOf plan)))) e in
@@ -172,7 +176,7 @@ module _ (card plan : List ℕ) (x : Passed card plan) where
           let e : suc (left - 1) ≡ left = omega arith in
           subst
           (λ (s : ℕ). Front (grammarOf card) (st .number) (st .start) (st .split) (drop (left - 1) (planOf plan)) (drop s (planOf plan)) R)
-          e (step-back (left - 1) st R (omega (arith, w .inPlan)) a r)
+          e (step-back (left - 1) st (omega (arith, w .inPlan)) a R r)
 
       pub writing-room : count ≡ length (planPairs card (stepsOf plan)) → {b : Action} → b ≡ actionOf R → RoomToMatch b room at
       writing-room e d =

@@ -1,4 +1,4 @@
--- What a plan that passes Check has: its bytes are those of its steps, from any step on, and its takes are paced.
+-- What a plan that passes Check has: an accepted card, bytes that are those of its steps, from any step on, and takes that are paced.
 -- From Check's theorems and the machine on goals; what is said of the rest of a plan is by induction on where it starts.
 use Prim.Native.Nat.{ℕ, zero, suc, _+_, _*_, _≤_, _<_}
 use native.Mathlib.Omega.{arith}
@@ -24,6 +24,7 @@ use Rattle.layout.specs.Answers.{inputNumber, wordsIn, lineTest, checkNumber, p
 use Rattle.layout.proofs.CardLaws.{card-one-sided}
 use Rattle.layout.proofs.Checking.{Derives, check-sound, steps-bytes}
 use Rattle.layout.proofs.Packing.{input-words}
+use Rattle.line.proofs.AcceptedLaws.{accepted-line}
 use Rattle.goals.specs.Goals.{goalsStart}
 use Rattle.goals.specs.Shown.{stepFrom, StepAt}
 use Rattle.goals.specs.declared.replay.Step.{Step}
@@ -41,6 +42,7 @@ abbrev pub planOf : List ℕ → List PlanStep
 planOf bytes = stepsElse (stepsOf bytes)
 
 pub record Passed (card plan : List ℕ) : Type 0 where
+  pub accepted : cardNumber card ≡ 0
   pub bytes : plan ≡ planBytes (planOf plan)
   pub pairs : planPairs card (stepsOf plan) ≡ matched (grammarOf card) (planOf plan)
   pub pace : Paced (grammarOf card) (planOf plan)
@@ -60,6 +62,7 @@ passed card line plan e =
         let n = wordsIn line in
         let p = run-paced g (lineTest card line) one n h₂ steps 0 _ (tiled-start n h₁) (goals-complete g (lineTest card line) one n d) in
         record {
+          accepted = accepted-line card line e₁ .card-accepted;
           bytes = e₂ ∙ ap planBytes (sym z);
           pairs = ap (planPairs card) s ∙ (pairs-matched d ∙ ap (matched g) (sym z));
           pace = subst (Paced g) (sym z) p;

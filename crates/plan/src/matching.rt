@@ -118,7 +118,7 @@ pub fn gives(card: &[u8], plan: &[u8]) -> usize
     while 0 < left {
         left -= 1;
         let step = step_at(plan, 4 * left);
-        let production = card::decode(card, step.number);
+        let production = card::production_in(card, step.number as usize);
         count += one_give(action_of(production));
     }
     count
@@ -139,7 +139,7 @@ pub fn write_pairs(card: &[u8], plan: &[u8], count: usize, room: &mut [u8])
     while 0 < left {
         left -= 1;
         let step = step_at(plan, 4 * left);
-        let production = card::decode(card, step.number);
+        let production = card::production_in(card, step.number as usize);
         let place = side_start(production, step);
         at = settle(action_of(production), place, &mut takes, room, at);
     }

@@ -9,13 +9,12 @@ use denote.Ref.{now}
 use Rattle.layout.specs.Bytes.{byteAt}
 use Rattle.layout.specs.Card.{cardLength, productionAt, ruleOf}
 use Rattle.card.proofs.Laws.{byte-from, five-same}
-use Rattle.card.proofs.Accepted.{accepted, length-fits}
+use Rattle.card.proofs.Accepted.{accepted-length}
 use Rattle.card.proofs.production_in.Statement.{statement}
 use Rattle.card.proofs.production_in.Tie as tie
 
--- An accepted card is as long as its counts say.
 room : (c : tie.Start) → length (now (c .args .card)) ≡ cardLength (now (c .args .card))
-room c = let card = now (c .args .card) in length-fits card (accepted card (c .pre .0) .measured)
+room c = accepted-length (now (c .args .card)) (c .pre .0)
 
 shared-slice-read-wide : tie.Need-shared-slice-read-wide
 shared-slice-read-wide c = omega (arith, room (c .before .before))

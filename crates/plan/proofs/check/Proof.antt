@@ -1,5 +1,5 @@
 -- Each way out is a law of Check's number: the refusal of card or line, 34 where the replay says no, and 0 where it says yes.
--- An accepted line has 1 to 24 words, which the replay asks.
+-- An accepted line has an accepted card and 1 to 24 words, which the replay asks.
 use borrow.Author.Needs.{needs}
 use borrow.Author.Tests.{not-true, not-false}
 use Rattle.plan.proofs.CheckLaws.{check-refused, accepted-fits, check-fails, check-passes}

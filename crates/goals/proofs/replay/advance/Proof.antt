@@ -1,14 +1,15 @@
 -- Each way out is a law of the model's step, whatever goals the arrays show: it is stuck by the test that failed, or it replaces the first goal.
 -- What the tests on the way show is said once, at the place where each is passed.
 use Prim.Native.Nat.{_<_}
-use mathlib.Core.Path.{_≡_, sym, _∙_}
+use mathlib.Core.Path.{_≡_, sym, _∙_, ap}
 use mathlib.Core.Bool.{true}
 use native.Mathlib.Omega.{arith}
 use lib.ListN.{getD}
 use borrow.Author.Needs.{needs}
 use borrow.Author.Tests.{not-true, not-false}
-use Rattle.layout.specs.Card.{productionCount}
+use Rattle.layout.specs.Card.{production, productionCount}
 use Rattle.card.specs.Productions.{ruleFrom}
+use Rattle.card.proofs.Accepted.{accepted-length}
 use Rattle.goals.specs.Shown.{fitsTop}
 use Rattle.goals.proofs.AdvanceLaws.{advanced-none, advanced-start, advanced-missing, advanced-end, advanced-misfit, advanced-fit, fits-take}
 use Rattle.goals.proofs.replay.advance.Statement.{statement}
@@ -21,15 +22,18 @@ same-end : (c : tie.Else3) → c .before .before .before .before .before .before
 same-end c = sym (c .before .before .wide2 .ensures .0) ∙ c .if3 .left
 
 there : (c : tie.Else4) → c .before .before .before .before .before .before .before .before .before .before .before .before .before .before .before .before .before .args .step .number < productionCount (c .before .before .before .before .before .before .before .before .before .before .before .before .before .before .before .before .before .args .card .now)
-there c = omega (arith, c .if4 .left, c .before .before .before .of .ensures .productions, c .before .before .wide3 .ensures .0)
+there c = omega (arith, c .if4 .left, c .before .before .wide3 .ensures .0, c .before .wide4 .ensures .0)
 
 in-line : (c : tie.Else4) → c .before .before .before .before .before .before .before .before .before .first-goal .result .start < 24
 in-line c =
-    omega (arith, c .before .before .before .before .before .before .before .before .before .first-goal .ensures .start, c .before .before .before .before .before .before .before .before .before .before .before .before .before .before .before .before .before .pre .inLine (omega (arith, c .before .before .before .before .before .before .before .before .before .before .before .before .before .before .if1 .left)))
+    omega (arith, c .before .before .before .before .before .before .before .before .before .first-goal .ensures .start, c .before .before .before .before .before .before .before .before .before .before .before .before .before .before .before .before .before .pre .1 .inLine (omega (arith, c .before .before .before .before .before .before .before .before .before .before .before .before .before .before .if1 .left)))
+
+meant : (c : tie.After-production-in) → ruleFrom (c .production-in .result) ≡ production (c .before .before .before .before .before .before .before .before .before .before .before .before .before .before .before .before .before .before .before .args .card .now) (c .before .before .before .before .before .before .before .before .before .before .before .before .before .before .before .before .before .before .before .args .step .number)
+meant c = c .production-in .ensures ∙ ap (production (c .before .before .before .before .before .before .before .before .before .before .before .before .before .before .before .before .before .before .before .args .card .now)) (c .before .wide5 .ensures .0)
 
 fitting : (c : tie.Else5)
-    → fitsTop (ruleFrom (c .before .before .before .before .decode .result)) (getD (c .before .before .before .before .before .before .before .before .before .before .before .before .before .before .before .before .before .before .before .before .before .before .args .words .now) (c .before .before .before .before .before .before .before .before .before .before .before .before .before .before .first-goal .result .start) 0)
-    (c .before .before .before .before .before .before .before .before .before .before .before .before .before .before .first-goal .result) (c .before .before .before .wide4 .result) ≡ true
+    → fitsTop (ruleFrom (c .before .before .before .before .production-in .result)) (getD (c .before .before .before .before .before .before .before .before .before .before .before .before .before .before .before .before .before .before .before .before .before .before .before .args .words .now) (c .before .before .before .before .before .before .before .before .before .before .before .before .before .before .before .first-goal .result .start) 0)
+    (c .before .before .before .before .before .before .before .before .before .before .before .before .before .before .before .first-goal .result) (c .before .before .before .wide6 .result) ≡ true
 fitting c = sym (c .before .fits2 .ensures) ∙ not-false _ (c .if5 .left)
 
 returns : tie.Need-returns
@@ -58,61 +62,71 @@ returns-3 c =
     advanced-end (a .card .now) (a .words .now) (a .step) (a .names .now) (a .ends .now) (a .bases .now) (a .stack .now) (a .stand)
     (c .before .before .before .before .before .before .before .before .before .before .if1 .left) (g .result) (g .ensures) (same-start (c .before .before .before)) (λ e. c .if3 .taken (c .before .before .wide2 .ensures .0 ∙ e))
 
-of-requires : tie.Need-of-requires
-of-requires c κs = search needs
+shared-slice-read-wide : tie.Need-shared-slice-read-wide
+shared-slice-read-wide c =
+    let s = c .before .before .before .before .before .before .before .before .before .before .before .before .before .before in
+    omega (arith, accepted-length (s .args .card .now) (s .pre .0))
 
 wide-requires-3 : tie.Need-wide-requires-3
 wide-requires-3 c κs = search needs
+
+wide-requires-4 : tie.Need-wide-requires-4
+wide-requires-4 c κs = search needs
 
 returns-4 : tie.Need-returns-4
 returns-4 c =
     let a = c .before .before .before .before .before .before .before .before .before .before .before .before .before .before .before .before .before .args in
     advanced-missing (a .card .now) (a .words .now) (a .step) (a .names .now) (a .ends .now) (a .bases .now) (a .stack .now) (a .stand)
-    (omega (arith, c .if4 .taken, c .before .before .before .of .ensures .productions, c .before .before .wide3 .ensures .0))
+    (omega (arith, c .if4 .taken, c .before .before .wide3 .ensures .0, c .before .wide4 .ensures .0))
 
-decode-requires : tie.Need-decode-requires
-decode-requires c κs = search needs
+wide-requires-5 : tie.Need-wide-requires-5
+wide-requires-5 c κs = search needs
 
-wide-requires-4 : tie.Need-wide-requires-4
-wide-requires-4 c κs = search needs
+production-in-requires : tie.Need-production-in-requires
+production-in-requires c κs =
+    let s = c .before .before .before .before .before .before .before .before .before .before .before .before .before .before .before .before .before .before in
+    (s .pre .0, omega (arith, c .wide5 .ensures .0, there (c .before)))
+
+wide-requires-6 : tie.Need-wide-requires-6
+wide-requires-6 c κs = search needs
 
 element-copy-out-fits : tie.Need-element-copy-out-fits
-element-copy-out-fits c = in-line (c .before .before)
+element-copy-out-fits c = in-line (c .before .before .before)
 
 fits-requires : tie.Need-fits-requires
 fits-requires c κs =
-    let s = c .before .before .before .before .before .before .before .before .before .before .before .before .before .before .before .before .before .before .before .before in
-    let h = c .before .before .before .before .before .before .before .before .before .before .before .before .first-goal .ensures in
-    (omega (arith, in-line (c .before .before .before)), omega (arith, h .depth, s .pre .fewIndices))
+    let s = c .before .before .before .before .before .before .before .before .before .before .before .before .before .before .before .before .before .before .before .before .before in
+    let h = c .before .before .before .before .before .before .before .before .before .before .before .before .before .first-goal .ensures in
+    (omega (arith, in-line (c .before .before .before .before)), omega (arith, h .depth, s .pre .1 .fewIndices))
 
 returns-5 : tie.Need-returns-5
 returns-5 c =
-    let a = c .before .before .before .before .before .before .before .before .before .before .before .before .before .before .before .before .before .before .before .before .before .before .args in
-    let g = c .before .before .before .before .before .before .before .before .before .before .before .before .before .before .first-goal in
+    let a = c .before .before .before .before .before .before .before .before .before .before .before .before .before .before .before .before .before .before .before .before .before .before .before .args in
+    let g = c .before .before .before .before .before .before .before .before .before .before .before .before .before .before .before .first-goal in
     advanced-misfit (a .card .now) (a .words .now) (a .step) (a .names .now) (a .ends .now) (a .bases .now) (a .stack .now) (a .stand)
-    (c .before .before .before .before .before .before .before .before .before .before .before .before .before .before .before .before .before .before .before .if1 .left) (g .result) (g .ensures) (ruleFrom (c .before .before .before .before .decode .result)) (there (c .before .before .before .before .before)) (c .before .before .before .before .decode .ensures)
-    (same-start (c .before .before .before .before .before .before .before .before .before .before .before .before)) (same-end (c .before .before .before .before .before .before .before .before .before)) (c .before .before .before .wide4 .result) (c .before .before .before .wide4 .ensures .0)
+    (c .before .before .before .before .before .before .before .before .before .before .before .before .before .before .before .before .before .before .before .before .if1 .left) (g .result) (g .ensures) (ruleFrom (c .before .before .before .before .production-in .result)) (there (c .before .before .before .before .before .before)) (meant (c .before .before .before .before))
+    (same-start (c .before .before .before .before .before .before .before .before .before .before .before .before .before)) (same-end (c .before .before .before .before .before .before .before .before .before .before)) (c .before .before .before .wide6 .result) (c .before .before .before .wide6 .ensures .0)
     (sym (c .before .fits2 .ensures) ∙ not-true _ (c .if5 .taken))
 
 replace-requires : tie.Need-replace-requires
 replace-requires c κs =
-    let s = c .before .before .before .before .before .before .before .before .before .before .before .before .before .before .before .before .before .before .before .before .before .before .before .before .before .before in
-    let g = c .before .before .before .before .before .before .before .before .before .before .before .before .before .before .before .before .before .before .first-goal in
+    let s = c .before .before .before .before .before .before .before .before .before .before .before .before .before .before .before .before .before .before .before .before .before .before .before .before .before .before .before in
+    let g = c .before .before .before .before .before .before .before .before .before .before .before .before .before .before .before .before .before .before .before .first-goal in
     record {
-      some = omega (arith, c .before .before .before .before .before .before .before .before .before .before .before .before .before .before .before .before .before .before .before .before .before .before .before .if1 .left);
-      few = s .pre .fewGoals;
-      low = s .pre .fewIndices;
-      takes = fits-take (ruleFrom (c .before .before .before .before .before .before .before .before .decode .result)) _ (g .result) (c .before .before .before .before .before .before .before .wide4 .result) (s .args .stand .top) (fitting (c .before .before .before .before))
+      some = omega (arith, c .before .before .before .before .before .before .before .before .before .before .before .before .before .before .before .before .before .before .before .before .before .before .before .before .if1 .left);
+      few = s .pre .1 .fewGoals;
+      low = s .pre .1 .fewIndices;
+      takes = fits-take (ruleFrom (c .before .before .before .before .before .before .before .before .production-in .result)) _ (g .result) (c .before .before .before .before .before .before .before .wide6 .result) (s .args .stand .top) (fitting (c .before .before .before .before))
           (omega (arith, g .ensures .depth));
     }
 
 returns-6 : tie.Need-returns-6
 returns-6 c =
-    let a = c .before .before .before .before .before .before .before .before .before .before .before .before .before .before .before .before .before .before .before .before .before .before .before .before .before .before .before .args in
-    let g = c .before .before .before .before .before .before .before .before .before .before .before .before .before .before .before .before .before .before .before .first-goal in
+    let a = c .before .before .before .before .before .before .before .before .before .before .before .before .before .before .before .before .before .before .before .before .before .before .before .before .before .before .before .before .args in
+    let g = c .before .before .before .before .before .before .before .before .before .before .before .before .before .before .before .before .before .before .before .before .first-goal in
     advanced-fit (a .card .now) (a .words .now) (a .step) (a .names .now) (a .ends .now) (a .bases .now) (a .stack .now) (a .stand)
-    (c .before .before .before .before .before .before .before .before .before .before .before .before .before .before .before .before .before .before .before .before .before .before .before .before .if1 .left) (g .result) (g .ensures) (ruleFrom (c .before .before .before .before .before .before .before .before .before .decode .result)) (there (c .before .before .before .before .before .before .before .before .before .before)) (c .before .before .before .before .before .before .before .before .before .decode .ensures)
-    (same-start (c .before .before .before .before .before .before .before .before .before .before .before .before .before .before .before .before .before)) (same-end (c .before .before .before .before .before .before .before .before .before .before .before .before .before .before)) (c .before .before .before .before .before .before .before .before .wide4 .result) (c .before .before .before .before .before .before .before .before .wide4 .ensures .0) _ _ _ _ (c .replace .result)
+    (c .before .before .before .before .before .before .before .before .before .before .before .before .before .before .before .before .before .before .before .before .before .before .before .before .before .if1 .left) (g .result) (g .ensures) (ruleFrom (c .before .before .before .before .before .before .before .before .before .production-in .result)) (there (c .before .before .before .before .before .before .before .before .before .before .before)) (meant (c .before .before .before .before .before .before .before .before .before))
+    (same-start (c .before .before .before .before .before .before .before .before .before .before .before .before .before .before .before .before .before .before)) (same-end (c .before .before .before .before .before .before .before .before .before .before .before .before .before .before .before)) (c .before .before .before .before .before .before .before .before .wide6 .result) (c .before .before .before .before .before .before .before .before .wide6 .ensures .0) _ _ _ _ (c .replace .result)
     (fitting (c .before .before .before .before .before)) (c .replace .ensures)
 
 pub advance-spec : {M : Type 1} → statement M
@@ -125,11 +139,13 @@ advance-spec =
     returns-2
     wide-requires-2
     returns-3
-    of-requires
+    shared-slice-read-wide
     wide-requires-3
-    returns-4
-    decode-requires
     wide-requires-4
+    returns-4
+    wide-requires-5
+    production-in-requires
+    wide-requires-6
     element-copy-out-fits
     fits-requires
     returns-5

@@ -23,7 +23,7 @@ array-write-ends c = search needs
 
 loop-holds : tie.Need-loop-holds Inv-loop μ-loop
 loop-holds c =
-    let s = c .before .before in let a = s .args in replay-start (a .card .now) (a .words .now) (a .n) (a .plan .now) (s .pre .0)
+    let s = c .before .before in let a = s .args in replay-start (a .card .now) (a .words .now) (a .n) (a .plan .now) (s .pre .1)
 
 sub-if1 : tie.Need-sub-if1 Inv-loop μ-loop
 sub-if1 c = search needs
@@ -41,8 +41,10 @@ advance-requires : tie.Need-advance-requires Inv-loop μ-loop
 advance-requires c κs =
     let s = c .before .before .before .before .before .before .before .before .before .before in
     let a = s .args in
-    let l = c .before .before .before .before .before .before .before .loop in
-    replay-within (a .card .now) (a .words .now) (a .n) (a .plan .now) (l .names) (l .ends) (l .bases) (l .stack) (l .stand) (l .at) (l .inv) (s .pre .1)
+    let l = c .before .before .before .before .before .before .before .loop in (
+      s .pre .0,
+      replay-within (a .card .now) (a .words .now) (a .n) (a .plan .now) (l .names) (l .ends) (l .bases) (l .stack) (l .stand) (l .at) (l .inv) (s .pre .2),
+    )
 
 enum-known-next : tie.Need-enum-known-next Inv-loop μ-loop
 enum-known-next c = search needs
@@ -56,7 +58,7 @@ returns-2 c =
     let a = s .args in
     let l = c .before .before .before .before .before .before .before .before .before .before .loop in
     replay-stuck (a .card .now) (a .words .now) (a .n) (a .plan .now) (l .names) (l .ends) (l .bases) (l .stack) (l .stand) (l .at) (l .inv)
-    (c .before .before .before .before .before .before .before .step-at .result) (four-left (c .before .before .before .before .before .before .before .before)) (c .before .before .before .before .before .before .before .step-at .ensures) (s .pre .2) _ _ _ _ (c .before .before .advance .result)
+    (c .before .before .before .before .before .before .before .step-at .result) (four-left (c .before .before .before .before .before .before .before .before)) (c .before .before .before .before .before .before .before .step-at .ensures) (s .pre .3) _ _ _ _ (c .before .before .advance .result)
     (c .before .before .advance .ensures) (c .enum-told .given .1)
 
 add-at : tie.Need-add-at Inv-loop μ-loop
@@ -71,7 +73,7 @@ loop-again c =
     let a = s .args in
     let l = c .before .before .before .before .before .before .before .before .before .before .before .loop in
     replay-on (a .card .now) (a .words .now) (a .n) (a .plan .now) (l .names) (l .ends) (l .bases) (l .stack) (l .stand) (l .at) (l .inv)
-    (c .before .before .before .before .before .before .before .before .step-at .result) (four-left (c .before .before .before .before .before .before .before .before .before)) (c .before .before .before .before .before .before .before .before .step-at .ensures) (s .pre .2) _ _ _ _ (c .before .before .before .advance .result)
+    (c .before .before .before .before .before .before .before .before .step-at .result) (four-left (c .before .before .before .before .before .before .before .before .before)) (c .before .before .before .before .before .before .before .before .step-at .ensures) (s .pre .3) _ _ _ _ (c .before .before .before .advance .result)
     (c .before .before .before .advance .ensures) _ (c .before .next .given .1)
 
 returns-3 : tie.Need-returns-3 Inv-loop μ-loop

@@ -1,12 +1,13 @@
 -- The invariant: what is counted are the pairs of the rest of the plan, from the step that the loop met last.
 -- The measure is the number of steps left. A step more in front has a pair more exactly if it gives.
 use mathlib.Core.Path.{_∙_, ap}
+use Prim.Native.Nat.{_-_}
 use native.Mathlib.Omega.{arith}
 use borrow.Author.Needs.{needs}
 use Rattle.grammar.proofs.PairsLaws.{oneGive}
 use Rattle.card.specs.Productions.{ruleFrom}
 use Rattle.plan.proofs.Passed.{Passed, passed}
-use Rattle.plan.proofs.MatchLaws.{Counting, counting-start, counting-turn, counting-end}
+use Rattle.plan.proofs.MatchLaws.{step-there, Counting, counting-start, counting-turn, counting-end}
 use Rattle.plan.proofs.matching.gives.Statement.{statement}
 use Rattle.plan.proofs.matching.gives.Tie as tie
 
@@ -33,8 +34,15 @@ mul-step-at c = omega (arith, c .before .loop .inv .1 .inPlan)
 step-at-requires : tie.Need-step-at-requires Inv-loop μ-loop
 step-at-requires c κs = omega (arith, c .before .loop .inv .1 .inPlan)
 
-decode-requires : tie.Need-decode-requires Inv-loop μ-loop
-decode-requires c κs = search needs
+cast-production-in : tie.Need-cast-production-in Inv-loop μ-loop
+cast-production-in c = search needs
+
+production-in-requires : tie.Need-production-in-requires Inv-loop μ-loop
+production-in-requires c κs =
+    let a = c .before .before .before .before .before .before .args in
+    let l = c .before .before .before .loop in
+    let st = c .before .step-at in
+    (l .inv .0 .accepted, step-there (a .card .now) (a .plan .now) (l .inv .0) (l .left - 1) (st .result) (omega (arith, l .inv .1 .inPlan)) (st .ensures))
 
 action-of-requires : tie.Need-action-of-requires Inv-loop μ-loop
 action-of-requires c κs = search needs
@@ -43,20 +51,20 @@ one-give-requires : tie.Need-one-give-requires Inv-loop μ-loop
 one-give-requires c κs = search needs
 
 add-count : tie.Need-add-count Inv-loop μ-loop
-add-count c = omega (arith, c .before .before .before .before .before .loop .inv .1 .few, c .one-give .ensures .1)
+add-count c = omega (arith, c .before .before .before .before .before .before .loop .inv .1 .few, c .one-give .ensures .1)
 
 loop-less : tie.Need-loop-less Inv-loop μ-loop
 loop-less c = search needs
 
 loop-again : tie.Need-loop-again Inv-loop μ-loop
 loop-again c =
-    let a = c .before .before .before .before .before .before .before .before .args in
-    let l = c .before .before .before .before .before .loop in
-    let st = c .before .before .before .step-at in
-    let d = c .before .before .decode in
+    let a = c .before .before .before .before .before .before .before .before .before .args in
+    let l = c .before .before .before .before .before .before .loop in
+    let st = c .before .before .before .before .step-at in
+    let d = c .before .before .production-in in
     let g = c .one-give in (
       l .inv .0,
-      counting-turn (a .card .now) (a .plan .now) (l .inv .0) (l .count) (l .left) (l .inv .1) (c .before .before .before .before .loop-test .taken) (st .result)
+      counting-turn (a .card .now) (a .plan .now) (l .inv .0) (l .count) (l .left) (l .inv .1) (c .before .before .before .before .before .loop-test .taken) (st .result)
           (ruleFrom (d .result)) (st .ensures) (d .ensures) (g .result) (g .ensures .0 ∙ ap oneGive (c .before .action-of .ensures)) (g .ensures .1),
     )
 
@@ -76,7 +84,8 @@ gives-spec =
     sub-left
     mul-step-at
     step-at-requires
-    decode-requires
+    cast-production-in
+    production-in-requires
     action-of-requires
     one-give-requires
     add-count

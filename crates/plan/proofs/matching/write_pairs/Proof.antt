@@ -1,10 +1,11 @@
 -- The invariant: the takes that wait and the pairs that are written are those of the rest of the plan, from the step that the loop met last.
 -- The measure is the number of steps left. Each need is a law of that invariant.
+use Prim.Native.Nat.{_-_}
 use native.Mathlib.Omega.{arith}
 use borrow.Author.Needs.{needs}
 use Rattle.card.specs.Productions.{ruleFrom}
 use Rattle.plan.proofs.Passed.{Passed, passed}
-use Rattle.plan.proofs.MatchLaws.{Writing, writing-start, writing-length, writing-end, writing-room, writing-turn}
+use Rattle.plan.proofs.MatchLaws.{step-there, Writing, writing-start, writing-length, writing-end, writing-room, writing-turn}
 use Rattle.plan.proofs.matching.write_pairs.Statement.{statement}
 use Rattle.plan.proofs.matching.write_pairs.Tie as tie
 
@@ -31,8 +32,15 @@ mul-step-at c = omega (arith, c .before .loop .inv .1 .inPlan)
 step-at-requires : tie.Need-step-at-requires Inv-loop μ-loop
 step-at-requires c κs = omega (arith, c .before .loop .inv .1 .inPlan)
 
-decode-requires : tie.Need-decode-requires Inv-loop μ-loop
-decode-requires c κs = search needs
+cast-production-in : tie.Need-cast-production-in Inv-loop μ-loop
+cast-production-in c = search needs
+
+production-in-requires : tie.Need-production-in-requires Inv-loop μ-loop
+production-in-requires c κs =
+    let a = c .before .before .before .before .before .before .before .args in
+    let l = c .before .before .before .loop in
+    let st = c .before .step-at in
+    (l .inv .0 .accepted, step-there (a .card .now) (a .plan .now) (l .inv .0) (l .left - 1) (st .result) (omega (arith, l .inv .1 .inPlan)) (st .ensures))
 
 side-start-requires : tie.Need-side-start-requires Inv-loop μ-loop
 side-start-requires c κs = search needs
@@ -42,26 +50,26 @@ action-of-requires c κs = search needs
 
 settle-requires : tie.Need-settle-requires Inv-loop μ-loop
 settle-requires c κs =
-    let s = c .before .before .before .before .before .before .before .before .before .before .before in
+    let s = c .before .before .before .before .before .before .before .before .before .before .before .before in
     let a = s .args in
-    let l = c .before .before .before .before .before .before .before .loop in
-    let st = c .before .before .before .before .before .step-at in
-    let d = c .before .before .before .before .decode in
+    let l = c .before .before .before .before .before .before .before .before .loop in
+    let st = c .before .before .before .before .before .before .step-at in
+    let d = c .before .before .before .before .production-in in
     writing-room (a .card .now) (a .plan .now) (l .inv .0) (a .room .now) (a .count) (l .takes) (l .room) (l .at) (l .left) (l .inv .1)
-    (st .result) (ruleFrom (d .result)) (c .before .before .before .before .before .before .loop-test .taken) (st .ensures) (d .ensures) (s .pre .1 .0) (c .before .before .action-of .ensures)
+    (st .result) (ruleFrom (d .result)) (c .before .before .before .before .before .before .before .loop-test .taken) (st .ensures) (d .ensures) (s .pre .1 .0) (c .before .before .action-of .ensures)
 
 loop-less : tie.Need-loop-less Inv-loop μ-loop
 loop-less c = search needs
 
 loop-again : tie.Need-loop-again Inv-loop μ-loop
 loop-again c =
-    let a = c .before .before .before .before .before .before .before .before .before .before .before .before .before .before .args in
-    let l = c .before .before .before .before .before .before .before .before .before .before .loop in
-    let st = c .before .before .before .before .before .before .before .before .step-at in
-    let d = c .before .before .before .before .before .before .before .decode in (
+    let a = c .before .before .before .before .before .before .before .before .before .before .before .before .before .before .before .args in
+    let l = c .before .before .before .before .before .before .before .before .before .before .before .loop in
+    let st = c .before .before .before .before .before .before .before .before .before .step-at in
+    let d = c .before .before .before .before .before .before .before .production-in in (
       l .inv .0,
       writing-turn (a .card .now) (a .plan .now) (l .inv .0) (a .room .now) (a .count) (l .takes) (l .room) (l .at) (l .left) (l .inv .1)
-          (st .result) (ruleFrom (d .result)) (c .before .before .before .before .before .before .before .before .before .loop-test .taken) (st .ensures) (d .ensures) _ _ (c .before .before .settle .result)
+          (st .result) (ruleFrom (d .result)) (c .before .before .before .before .before .before .before .before .before .before .loop-test .taken) (st .ensures) (d .ensures) _ _ (c .before .before .settle .result)
           (c .before .before .before .before .before .action-of .ensures) (c .before .before .before .before .before .before .side-start .ensures) (c .before .before .settle .ensures),
     )
 
@@ -88,7 +96,8 @@ write-pairs-spec =
     sub-left
     mul-step-at
     step-at-requires
-    decode-requires
+    cast-production-in
+    production-in-requires
     side-start-requires
     action-of-requires
     settle-requires
