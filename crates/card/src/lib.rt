@@ -1,5 +1,6 @@
 // The card: its type, the check of its bytes, its productions and the names of its words (document 01, "The card").
-// A byte past the end of a card reads as 0, so every function here takes any bytes of any length.
+// A byte past the end of a card reads as 0, so every function here takes any bytes of any length, but for `production_in`, which is
+// asked of an accepted card.
 pub mod bytes;
 mod entries;
 mod header;
