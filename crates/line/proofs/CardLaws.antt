@@ -1,13 +1,14 @@
 -- What an accepted card tells of its word table: the tests behind refusals 12 to 14 hold, so the table lies within the card and each
--- entry's spelling within its entry.
+-- entry has 1 to 11 letters, and then zeros.
 use Prim.Native.Nat.{ℕ, _≤_, _<_}
 use mathlib.Core.Path.{_≡_, refl}
 use mathlib.Core.Bool.{Bool, true, false, _&&_, false≢true}
 use mathlib.Core.List.{List}
-use lib.Dec.{leb}
+use lib.Dec.{eqb, leb}
 use lib.ListN.{length}
 use borrow.Author.Tests.{leb-true}
-use Rattle.layout.specs.Card.{nonterminalCount, wordCount, cardLength, spellingLength, within, entryFits, cardNumber}
+use Rattle.layout.specs.Bytes.{isLetter, allBytes}
+use Rattle.layout.specs.Card.{nonterminalCount, wordCount, cardLength, spellingLength, spelling, padding, within, entryFits, cardNumber}
 use Rattle.card.proofs.Laws.{below-all}
 use Rattle.card.proofs.Accepted.{Accepted, accepted, length-fits}
 
@@ -20,11 +21,25 @@ limits low high x e =
     let parts = both (leb low x) (leb x high) e in
     (leb-true low x (parts .0), leb-true x high (parts .1))
 
+-- One entry.
+pub record Entry (card : List ℕ) (v : ℕ) : Type 0 where
+  pub some-letters : 1 ≤ spellingLength card v
+  pub most-letters : spellingLength card v ≤ 11
+  pub letters : allBytes isLetter (spelling card v) ≡ true
+  pub zeros : allBytes (eqb 0) (padding card v) ≡ true
+
+entry-of : (card : List ℕ) (v : ℕ) → entryFits card v ≡ true → Entry card v
+entry-of card v e =
+    let parts = both (within 1 11 (spellingLength card v)) _ e in
+    let size = limits 1 11 (spellingLength card v) (parts .0) in
+    let bytes = both (allBytes isLetter (spelling card v)) (allBytes (eqb 0) (padding card v)) (parts .1) in
+    record { some-letters = size .0; most-letters = size .1; letters = bytes .0; zeros = bytes .1 }
+
 pub record WordTable (card : List ℕ) : Type 0 where
   pub some-words : 1 ≤ wordCount card
   pub most-words : wordCount card ≤ 32
   pub inside : length card ≡ cardLength card
-  pub spelled : (v : ℕ) → v < wordCount card → (1 ≤ spellingLength card v) × (spellingLength card v ≤ 11)
+  pub entries : (v : ℕ) → v < wordCount card → Entry card v
 
 pub word-table : (card : List ℕ) → cardNumber card ≡ 0 → WordTable card
 word-table card e =
@@ -35,7 +50,5 @@ word-table card e =
       some-words = words .0;
       most-words = words .1;
       inside = length-fits card (a .measured);
-      spelled =
-          λ v h. limits 1 11 (spellingLength card v)
-          (both (within 1 11 (spellingLength card v)) _ (below-all (wordCount card) (entryFits card) (a .fit) v h) .0);
+      entries = λ v h. entry-of card v (below-all (wordCount card) (entryFits card) (a .fit) v h);
     }

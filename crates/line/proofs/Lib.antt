@@ -1,7 +1,10 @@
-pub mod ByteLaws
-pub mod WordLaws
 pub mod CardLaws
+pub mod LetterLaws
+pub mod WordLaws
+pub mod PackLaws
+pub mod KeyLaws
 pub mod LookupLaws
 pub mod NumberLaws
 pub mod RefusalLaws
 pub mod AcceptedLaws
+pub mod PassLaws

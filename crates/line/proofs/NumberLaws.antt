@@ -1,44 +1,28 @@
--- Numbering the words of a line one by one: the numbers stored so far and those of the words from `at` on are all the numbers of the
--- line, what follows them is zeros, and whether every word is known depends on the words from `at` on alone.
-use Prim.Native.Nat.{ℕ, suc, _+_, _-_, _^_, _≤_, _<_}
+-- Numbering the words of a line one by one: every word is known if all before `at` are and all from `at` on; while they are, the numbers
+-- stored so far and those of the words from `at` on are all the numbers of the line, and what follows them is zeros.
+use Prim.Native.Nat.{ℕ, suc, _+_, _-_, _≤_, _<_}
 use native.Mathlib.Numerals.{add-one}
 use native.Mathlib.Omega.{arith}
 use mathlib.Core.Path.{_≡_, refl, sym, _∙_, ap}
-use mathlib.Core.Bool.{true, false}
+use mathlib.Core.Bool.{Bool, true, false, _&&_, false≢true}
 use mathlib.Core.List.{List, [], _∷_, _++_, map, append-assoc, append-nil}
 use mathlib.Core.Option.{none, some}
 use lib.ListN.{length, take, drop, set, replicate, length-set, take-append-drop}
 use lib.Seq.{take-suc-set, drop-set-lt, drop-drop}
 use Rattle.layout.specs.Line.{wordsOf, orZero, numberOfWord, numbersOf, allKnown}
 use Rattle.layout.specs.Answers.{wordsIn}
-use Rattle.line.specs.declared.Accepted.{Accepted}
-use Rattle.line.specs.Words.{WordStarts, WordEnds}
-use Rattle.line.specs.Accepted.{WordsLeft, Refused, Accepts}
-use Rattle.line.proofs.CardLaws.{WordTable, word-table}
-use Rattle.line.proofs.WordLaws.{part, word-then, no-words, Counted, counted-none, counted-more, counted-all}
-use Rattle.line.proofs.LookupLaws.{number-below}
-use Rattle.line.proofs.RefusalLaws.{refuses, accepts}
+use Rattle.line.specs.Words.{part, WordStarts}
+use Rattle.line.proofs.WordLaws.{WordEnds, no-words}
 
 -- The numbers of some words.
 abbrev pub numbers : List ℕ → List (List ℕ) → List ℕ
 numbers card words = map (λ word. orZero (numberOfWord card word)) words
 
-pub record Numbering (card line : List ℕ) (at n : ℕ) (stored : List ℕ) : Type 0 where
-  pub counted : Counted line at n
-  pub known : allKnown card (wordsOf line) ≡ allKnown card (wordsOf (drop at line))
-  pub numbered : numbersOf card line ≡ take n stored ++ numbers card (wordsOf (drop at line))
+pub record Numbering (card line : List ℕ) (at n : ℕ) (known : Bool) (stored : List ℕ) : Type 0 where
+  pub all-known : allKnown card (wordsOf line) ≡ (known && allKnown card (wordsOf (drop at line)))
+  pub numbered : known ≡ true → numbersOf card line ≡ take n stored ++ numbers card (wordsOf (drop at line))
   pub room : length stored ≡ 24
   pub zeros : drop n stored ≡ replicate (24 - n) 0
-
-pub numbering-none : {card line : List ℕ} {at : ℕ} → WordStarts line 0 at → Numbering card line at 0 (replicate 24 0)
-numbering-none {card} s =
-    record {
-      counted = counted-none s;
-      known = ap (allKnown card) (s .words);
-      numbered = ap (numbers card) (s .words);
-      room = refl;
-      zeros = refl;
-    }
 
 -- The lists on both sides of a store.
 zeros-left : (stored : List ℕ) (n : ℕ) → n < 24 → drop n stored ≡ replicate (24 - n) 0
@@ -55,63 +39,62 @@ number-first : (card word : List ℕ) (words : List (List ℕ)) (v : ℕ) → nu
     → numbers card (word ∷ words) ≡ v ∷ numbers card words
 number-first card word words v e = ap (λ o. orZero o ∷ numbers card words) e
 
--- A turn: the word from `at` to `stop` has a number, or decides that the line is refused.
-pub record Turn (card line : List ℕ) (at n : ℕ) (stored : List ℕ) (stop : ℕ) : Type 0 where
-  pub left : WordsLeft card line
-  pub numbering : Numbering card line at n stored
-  pub ends : WordEnds line at stop
+never : (t : Bool) → (t && false) ≡ false
+never true = refl
+never false = refl
 
-module _ {card line stored : List ℕ} {at stop n : ℕ} (t : Turn card line at n stored stop) where
-  pub room-left : n < 24
-  room-left = omega (arith, t .left .most, t .numbering .counted .counts, ap length (t .ends .words))
+always : (t : Bool) → (t && true) ≡ t
+always true = refl
+always false = refl
 
-  pub count-fits : n + 1 < 2 ^ 64
-  count-fits = omega (arith, room-left)
-
-  pub number-fits : {v : ℕ} → numberOfWord card (part line at stop) ≡ some v → v < 2 ^ 8
-  number-fits {v} f =
-      let table : WordTable card = word-table card (t .left .accepted) in
-      omega (arith, table .most-words, number-below card (part line at stop) v f)
-
-  pub numbering-more : {next v : ℕ} → WordStarts line stop next → numberOfWord card (part line at stop) ≡ some v
-      → Numbering card line next (n + 1) (set stored n v)
-  numbering-more {next} {v} b f =
-      let s : Numbering card line at n stored = t .numbering in
+-- The word from `at` to `stop`, while there is room for its number.
+module _ {card line stored : List ℕ} {at stop n : ℕ} {known : Bool}
+    (s : Numbering card line at n known stored) (ends : WordEnds line at stop) (h : n < 24) where
+  pub numbering-known : {v : ℕ} → numberOfWord card (part line at stop) ≡ some v
+      → Numbering card line stop (n + 1) known (set stored n v)
+  numbering-known {v} f =
       let word = part line at stop in
-      let rest = wordsOf (drop next line) in
-      let split : wordsOf (drop at line) ≡ word ∷ rest = word-then (t .ends) b in
+      let rest = wordsOf (drop stop line) in
       record {
-        counted = counted-more (s .counted) (t .ends) b;
-        known = s .known ∙ ap (allKnown card) split ∙ rw f;
+        all-known = s .all-known ∙ ap (λ (t : Bool). known && t) (ap (allKnown card) (ends .words) ∙ rw f);
         numbered =
-            s .numbered
-            ∙ ap (λ (l : List ℕ). take n stored ++ l) (ap (numbers card) split ∙ number-first card word rest v f)
-            ∙ stored-more stored (numbers card rest) n v (omega (arith, room-left, s .room));
+            λ e. s .numbered e
+            ∙ ap (λ (l : List ℕ). take n stored ++ l) (ap (numbers card) (ends .words) ∙ number-first card word rest v f)
+            ∙ stored-more stored (numbers card rest) n v (omega (arith, s .room));
         room = length-set stored n v ∙ s .room;
-        zeros = drop-set-lt (n + 1) stored n v (omega arith) ∙ zeros-left stored n room-left (s .zeros);
+        zeros = drop-set-lt (n + 1) stored n v (omega arith) ∙ zeros-left stored n h (s .zeros);
       }
 
-  pub refuses-unknown : {r : Accepted} → numberOfWord card (part line at stop) ≡ none → Refused 24 r → Accepts card line r
-  refuses-unknown f =
-      let unknown : allKnown card (wordsOf line) ≡ false =
-      t .numbering .known ∙ ap (allKnown card) (t .ends .words) ∙ rw f in
-      refuses (t .left .number ∙ rw unknown) (λ z. omega arith)
+  pub numbering-unknown : numberOfWord card (part line at stop) ≡ none → Numbering card line stop (n + 1) false stored
+  numbering-unknown f =
+      record {
+        all-known =
+            s .all-known ∙ ap (λ (t : Bool). known && t) (ap (allKnown card) (ends .words) ∙ rw f) ∙ never known;
+        numbered = λ e. absurd (false≢true e);
+        room = s .room;
+        zeros = zeros-left stored n h (s .zeros);
+      }
 
--- The end of the line: every word has its number.
-module _ {card line stored : List ℕ} {at n : ℕ}
-    (l : WordsLeft card line) (s : Numbering card line at n stored) (h : length line ≤ at) where
-  all-known : allKnown card (wordsOf line) ≡ true
-  all-known = s .known ∙ ap (allKnown card) (no-words line at h)
+-- Spaces after the word change nothing.
+pub numbering-on : {card line stored : List ℕ} {stop next n : ℕ} {known : Bool} → Numbering card line stop n known stored
+    → WordStarts line stop next → Numbering card line next n known stored
+numbering-on {card} {line} {stored} {stop} {next} {n} {known} s starts =
+    record {
+      all-known = s .all-known ∙ ap (λ words. known && allKnown card words) (starts .words);
+      numbered = λ e. s .numbered e ∙ ap (λ words. take n stored ++ numbers card words) (starts .words);
+      room = s .room;
+      zeros = s .zeros;
+    }
 
-  all-counted : n ≡ wordsIn line
-  all-counted = counted-all (s .counted) h
+-- The end of the line, and every word known.
+module _ {card line stored : List ℕ} {at n : ℕ} {known : Bool}
+    (s : Numbering card line at n known stored) (h : length line ≤ at) where
+  pub known-all : allKnown card (wordsOf line) ≡ known
+  known-all = s .all-known ∙ ap (λ words. known && allKnown card words) (no-words line at h) ∙ always known
 
-  all-numbered : stored ≡ numbersOf card line ++ replicate (24 - wordsIn line) 0
-  all-numbered =
+  pub numbered-all : known ≡ true → n ≡ wordsIn line → stored ≡ numbersOf card line ++ replicate (24 - wordsIn line) 0
+  numbered-all k count =
       let none-left : numbers card (wordsOf (drop at line)) ≡ [] = ap (numbers card) (no-words line at h) in
-      let e : numbersOf card line ≡ take n stored = s .numbered ∙ rw none-left (append-nil (take n stored)) in
+      let e : numbersOf card line ≡ take n stored = s .numbered k ∙ rw none-left (append-nil (take n stored)) in
       sym (take-append-drop n stored) ∙ ap (λ (l : List ℕ). l ++ drop n stored) (sym e)
-      ∙ ap (λ (l : List ℕ). numbersOf card line ++ l) (s .zeros ∙ ap (λ (m : ℕ). replicate (24 - m) 0) all-counted)
-
-  pub accepts-all : Accepts card line (record { number = 0; count = n; words = stored })
-  accepts-all = accepts (l .number ∙ rw all-known) refl all-counted all-numbered
+      ∙ ap (λ (l : List ℕ). numbersOf card line ++ l) (s .zeros ∙ ap (λ (m : ℕ). replicate (24 - m) 0) count)

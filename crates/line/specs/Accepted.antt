@@ -1,14 +1,13 @@
 -- What accepting a line answers, from card and line alone: the number of the refusal, or 0; and the words' count and numbers, with
 -- zeros after them, all 0 on a refusal.
-use Prim.Native.Nat.{ℕ, _-_, _≤_}
+use Prim.Native.Nat.{ℕ, _-_}
 use mathlib.Core.Path.{_≡_}
-use mathlib.Core.Bool.{cond}
+use mathlib.Core.Bool.{Bool, cond}
 use mathlib.Core.List.{List, _++_}
-use lib.Dec.{eqb}
+use lib.Dec.{eqb, leb}
 use lib.ListN.{replicate}
 use Rattle.layout.specs.Bytes.{check}
-use Rattle.layout.specs.Card.{cardNumber}
-use Rattle.layout.specs.Line.{wordsOf, numbersOf, allKnown}
+use Rattle.layout.specs.Line.{numbersOf}
 use Rattle.layout.specs.Answers.{inputNumber, wordsIn}
 use Rattle.line.specs.declared.Accepted.{Accepted}
 
@@ -30,8 +29,12 @@ pub record Refused (refusal : ℕ) (r : Accepted) : Type 0 where
   pub count : r .count ≡ 0
   pub words : r .words ≡ replicate 24 0
 
--- The card is accepted, and of the line's refusals the last is left: a word that is not on the card.
-pub record WordsLeft (card line : List ℕ) : Type 0 where
-  pub accepted : cardNumber card ≡ 0
-  pub most : wordsIn line ≤ 24
-  pub number : inputNumber card line ≡ check (allKnown card (wordsOf line)) 24 0
+-- The refusals that wait for the line's end, from the count of its words and whether the card has them all; and an answer with that
+-- number, or with the words.
+abbrev pub wordsNumber : ℕ → Bool → ℕ
+wordsNumber count known = check (leb 1 count) 21 (check (leb count 24) 23 (check known 24 0))
+
+pub record Verdict (count : ℕ) (known : Bool) (words : List ℕ) (r : Accepted) : Type 0 where
+  pub number : r .number ≡ wordsNumber count known
+  pub counts : r .count ≡ cond (eqb (wordsNumber count known) 0) count 0
+  pub numbers : r .words ≡ cond (eqb (wordsNumber count known) 0) words (replicate 24 0)

@@ -1,20 +1,34 @@
--- Document 01, "Line and rewriting": where a line's next word starts and where it ends, said by the words of the rest of the line.
+-- Document 01, "Line and rewriting": where a line's next word starts, said by the rest of the line, and where its letters end.
 use Prim.Native.Nat.{ℕ, _-_, _≤_, _<_}
 use mathlib.Core.Path.{_≡_}
-use mathlib.Core.List.{List, _∷_}
+use mathlib.Core.Bool.{true, false}
+use mathlib.Core.List.{List}
 use lib.ListN.{length, take, drop}
-use Rattle.layout.specs.Bytes.{byteAt}
-use Rattle.layout.specs.Line.{space, wordsOf}
+use Rattle.layout.specs.Bytes.{byteAt, isLetter, allBytes}
+use Rattle.layout.specs.Line.{space, isLineByte, wordsOf}
 
--- From `start` on the line has the words that it has from `at` on, and no space stands at `start`.
+-- From `start` on the line has the words that it has from `at` on, and as many bytes that do not fit; no space stands at `start`.
 pub record WordStarts (line : List ℕ) (at start : ℕ) : Type 0 where
   pub after : at ≤ start
   pub within : start ≤ length line
   pub words : wordsOf (drop at line) ≡ wordsOf (drop start line)
+  pub fits : allBytes isLineByte (drop at line) ≡ allBytes isLineByte (drop start line)
   pub letter : start < length line → byteAt line start ≡ space → ⊥
 
--- The bytes from `start` to `stop` are the first of the words from `start` on.
-pub record WordEnds (line : List ℕ) (start stop : ℕ) : Type 0 where
-  pub after : start < stop
+-- The bytes of a line from one place up to another.
+abbrev pub part : List ℕ → ℕ → ℕ → List ℕ
+part line start stop = take (stop - start) (drop start line)
+
+-- Letters stand from `at` up to `stop`.
+pub record Letters (line : List ℕ) (at stop : ℕ) : Type 0 where
+  pub after : at ≤ stop
   pub within : stop ≤ length line
-  pub words : wordsOf (drop start line) ≡ take (stop - start) (drop start line) ∷ wordsOf (drop stop line)
+  pub letters : allBytes isLetter (part line at stop) ≡ true
+
+-- They end there: with the line, or before a byte that is no letter.
+abbrev pub NoLetter : List ℕ → ℕ → Type 0
+NoLetter line stop = stop < length line → isLetter (byteAt line stop) ≡ false
+
+pub record PastLetters (line : List ℕ) (at stop : ℕ) : Type 0 where
+  pub taken : Letters line at stop
+  pub stops : NoLetter line stop

@@ -1,18 +1,19 @@
 // A line, accepted or refused: its bytes, its words and their numbers on the card (document 01, "Line and rewriting", and the shift
-// leader's refusals 22, 21, 23 and 24).
+// leader's refusals 22, 21, 23 and 24). Each byte is read once: words are cut, tested and packed in one pass, and looked up as numbers.
 use card::Card;
+use card::bytes::eight;
+use card::bytes::four;
+use card::bytes::is_letter;
 use card::bytes::wide;
 use card::card_number;
-ghost use Prim.Native.Nat.{_≤_, _<_};
+ghost use Prim.Native.Nat.{_+_, _≤_};
 ghost use mathlib.Core.Path.{_≡_};
 ghost use lib.ListN.{length};
-ghost use Rattle.layout.specs.Bytes.{byteAt, allBytes};
 ghost use Rattle.layout.specs.Card.{cardNumber};
-ghost use Rattle.layout.specs.Line.{space, isLineByte, numberOfWord};
-ghost use Rattle.layout.specs.Answers.{wordsIn};
-ghost use Rattle.line.specs.Words.{WordStarts, WordEnds};
-ghost use Rattle.line.specs.Lookup.{lookupFrom};
-ghost use Rattle.line.specs.Accepted.{WordsLeft, Refused, Accepts};
+ghost use Rattle.line.specs.Words.{WordStarts, PastLetters};
+ghost use Rattle.line.specs.Packed.{RunOf, WordOf};
+ghost use Rattle.line.specs.Lookup.{lookupFrom, numberOfKey};
+ghost use Rattle.line.specs.Accepted.{Refused, Verdict, Accepts};
 
 // The most words that a line may have.
 pub const MOST_WORDS: usize = 24;
@@ -32,35 +33,6 @@ pub enum Lookup {
     Missing,
 }
 
-// Letters come first because most bytes of a line are letters.
-fn is_line_byte(b: u8) -> bool
-    ensures { λ r. ⌜ r ≡ isLineByte b ⌝ }
-{
-    if b'a' <= b {
-        return b <= b'z';
-    }
-    if b == SPACE {
-        return true;
-    }
-    if b < b'0' {
-        return false;
-    }
-    b <= b'9'
-}
-
-fn line_bytes_fit(line: &[u8]) -> bool
-    ensures { λ r. ⌜ r ≡ allBytes isLineByte (now (line .entry)) ⌝ }
-{
-    let mut i = 0;
-    while i < line.len() {
-        if !is_line_byte(line[i]) {
-            return false;
-        }
-        i += 1;
-    }
-    true
-}
-
 // Past the spaces that stand at `at`.
 fn word_start(line: &[u8], at: usize) -> usize
     requires { ⌜ at ≤ length (now line) ⌝ }
@@ -76,61 +48,115 @@ fn word_start(line: &[u8], at: usize) -> usize
     i
 }
 
-// Past the word that starts at `start`.
-fn word_end(line: &[u8], start: usize) -> usize
-    requires { ⌜ start < length (now line) ⌝ }
-    requires { ⌜ (byteAt (now line) start ≡ space → ⊥) ⌝ }
-    ensures { λ r. ⌜ WordEnds (now (line .entry)) start r ⌝ }
+// A run of letters: where it ends, and its bytes as one number, the first lowest.
+struct Run {
+    end: usize,
+    packed: u64,
+}
+
+// The letters at a place, so many at most; seven and a length byte fit one number.
+fn letters(line: &[u8], at: usize, most: usize) -> Run
+    requires { ⌜ at ≤ length (now line) ⌝ }
+    requires { ⌜ most ≤ 7 ⌝ }
+    ensures { λ r. ⌜ RunOf (now (line .entry)) at most r ⌝ }
 {
-    let mut i = start + 1;
-    while i < line.len() {
-        if line[i] == SPACE {
-            return i;
+    let mut end = at;
+    let mut packed = 0u64;
+    let mut scale = 1u64;
+    while end < line.len() {
+        if end - at == most {
+            return Run { end, packed };
         }
-        i += 1;
+        let b = line[end];
+        if !is_letter(b) {
+            return Run { end, packed };
+        }
+        packed = packed + scale * (b as u64);
+        scale = 256 * scale;
+        end += 1;
     }
-    i
+    Run { end, packed }
 }
 
-fn count_words(line: &[u8]) -> usize
-    ensures { λ r. ⌜ r ≡ wordsIn (now (line .entry)) ⌝ }
+// Past all the letters that stand at `at`.
+fn past_letters(line: &[u8], at: usize) -> usize
+    requires { ⌜ at ≤ length (now line) ⌝ }
+    ensures { λ r. ⌜ PastLetters (now (line .entry)) at r ⌝ }
 {
-    let mut count = 0;
-    let mut at = word_start(line, 0);
-    while at < line.len() {
-        let end = word_end(line, at);
-        count += 1;
-        at = word_start(line, end);
+    let mut end = at;
+    while end < line.len() {
+        if !is_letter(line[end]) {
+            return end;
+        }
+        end += 1;
     }
-    count
+    end
 }
 
-// The position of the entry that equals the word byte by byte. `next` steps on before the bytes are compared, so that a mismatch only
-// has to go on.
-fn look_up(card: &[u8], word: &[u8]) -> Lookup
+// A word: where it ends, and the two numbers that its entry on a card would have, `low` of the first 8 bytes and `high` of the last 4.
+struct Word {
+    end: usize,
+    low: u64,
+    high: u64,
+}
+
+// A word that starts with the 7 letters of `first`. No entry has the low number 0, which a word too long for one gets.
+fn long_word(line: &[u8], at: usize, first: Run) -> Word
+    requires { ⌜ RunOf (now line) at 7 first ⌝ }
+    requires { ⌜ first .end ≡ at + 7 ⌝ }
+    ensures { λ r. ⌜ WordOf (now (line .entry)) at r ⌝ }
+{
+    let second = letters(line, first.end, 4);
+    let end = past_letters(line, second.end);
+    if 11 < end - at {
+        return Word {
+            end,
+            low: 0,
+            high: 0,
+        };
+    }
+    Word {
+        end,
+        low: 256 * first.packed + ((end - at) as u64),
+        high: second.packed,
+    }
+}
+
+// The word at a place; empty where no letter stands.
+fn word_at(line: &[u8], at: usize) -> Word
+    requires { ⌜ at ≤ length (now line) ⌝ }
+    ensures { λ r. ⌜ WordOf (now (line .entry)) at r ⌝ }
+{
+    let first = letters(line, at, 7);
+    let size = first.end - at;
+    if size == 7 {
+        return long_word(line, at, first);
+    }
+    Word {
+        end: first.end,
+        low: 256 * first.packed + (size as u64),
+        high: 0,
+    }
+}
+
+// The position of the entry that has the word's two numbers.
+fn look_up(card: &[u8], word: Word) -> Lookup
     requires { ⌜ cardNumber (now card) ≡ 0 ⌝ }
-    ensures { λ r. ⌜ lookupFrom r ≡ numberOfWord (now (card .entry)) (now (word .entry)) ⌝ }
+    ensures { λ r. ⌜ lookupFrom r ≡ numberOfKey (now (card .entry)) (word .low) (word .high) ⌝ }
 {
-    let words = Card::of(card).words;
+    let words = wide(card[5]);
     let mut next = 0;
     let at = 'entry: loop {
         if next == words {
             break words;
         }
-        let here = next;
-        next += 1;
-        let entry = Card::WORD_TABLE + Card::ENTRY * here;
-        if wide(card[entry]) != word.len() {
-            continue 'entry;
-        }
-        let mut i = 0;
-        while i < word.len() {
-            if card[entry + 1 + i] != word[i] {
-                continue 'entry;
+        let entry = Card::WORD_TABLE + Card::ENTRY * next;
+        if eight(card, entry) == word.low {
+            if four(card, entry + 8) == word.high {
+                break next;
             }
-            i += 1;
         }
-        break here;
+        next += 1;
     };
     if at == words {
         return Lookup::Missing;
@@ -148,29 +174,55 @@ fn refused(number: u64) -> Accepted
     }
 }
 
-// The numbers of the words, each looked up in turn; 24 at the first word that the card does not have.
-fn numbered(card: &[u8], line: &[u8]) -> Accepted
-    requires { ⌜ WordsLeft (now card) (now line) ⌝ }
-    ensures { λ r. ⌜ Accepts (now (card .entry)) (now (line .entry)) r ⌝ }
+// What the words say at the end of a line whose bytes all fit.
+fn verdict(count: usize, known: bool, words: [u8; MOST_WORDS]) -> Accepted
+    ensures { λ r. ⌜ Verdict count known words r ⌝ }
 {
-    let mut words = [0u8; MOST_WORDS];
-    let mut count = 0;
-    let mut at = word_start(line, 0);
-    while at < line.len() {
-        let end = word_end(line, at);
-        let found = look_up(card, &line[at..end]);
-        let Lookup::At(v) = found else {
-            return refused(24);
-        };
-        words[count] = v as u8;
-        count += 1;
-        at = word_start(line, end);
+    if count == 0 {
+        return refused(21);
+    }
+    if MOST_WORDS < count {
+        return refused(23);
+    }
+    if !known {
+        return refused(24);
     }
     Accepted {
         number: 0,
         count,
         words,
     }
+}
+
+// The one pass over the line. 22 comes before the line's other refusals, so it is answered at the first byte that does not fit; the
+// others wait for the end. Past the most words only their count goes on.
+fn numbered(card: &[u8], line: &[u8]) -> Accepted
+    requires { ⌜ cardNumber (now card) ≡ 0 ⌝ }
+    ensures { λ r. ⌜ Accepts (now (card .entry)) (now (line .entry)) r ⌝ }
+{
+    let mut words = [0u8; MOST_WORDS];
+    let mut count = 0;
+    let mut known = true;
+    let mut at = word_start(line, 0);
+    while at < line.len() {
+        let word = word_at(line, at);
+        let end = word.end;
+        if end < line.len() {
+            if line[end] != SPACE {
+                return refused(22);
+            }
+        }
+        if count < MOST_WORDS {
+            let found = look_up(card, word);
+            match found {
+                Lookup::At(v) => words[count] = v as u8,
+                Lookup::Missing => known = false,
+            }
+        }
+        count += 1;
+        at = word_start(line, end);
+    }
+    verdict(count, known, words)
 }
 
 // The card's refusals, then the line's in their order, each over the whole line.
@@ -180,16 +232,6 @@ pub fn accept(card: &[u8], line: &[u8]) -> Accepted
     let number = card_number(card);
     if number != 0 {
         return refused(number);
-    }
-    if !line_bytes_fit(line) {
-        return refused(22);
-    }
-    let count = count_words(line);
-    if count == 0 {
-        return refused(21);
-    }
-    if MOST_WORDS < count {
-        return refused(23);
     }
     numbered(card, line)
 }

@@ -1,0 +1,117 @@
+-- Letters: bytes above the space, so each fits a line and a number's byte; and runs of them, taken byte by byte and one after another.
+use Prim.Native.Nat.{ℕ, zero, suc, _+_, _-_, _≤_, _<_}
+use native.Mathlib.Omega.{arith}
+use mathlib.Core.Path.{_≡_, refl, sym, _∙_, ap}
+use mathlib.Core.Bool.{Bool, true, false, _&&_, _||_, false≢true}
+use mathlib.Core.List.{List, [], _∷_, _++_}
+use lib.Dec.{eqb, leb, lit<}
+use lib.ListN.{length, take, drop, length-take, length-drop, take-append-drop}
+use lib.Seq.{drop-cons, take-suc, take-add, drop-drop, getD-drop}
+use borrow.Author.Tests.{leb-true, ne-eqb}
+use Rattle.layout.specs.Bytes.{byteAt, isLetter, allBytes}
+use Rattle.layout.specs.Line.{space, isLineByte}
+use Rattle.card.proofs.NumberLaws.{AreBytes}
+use Rattle.line.specs.Words.{part, Letters, NoLetter, PastLetters}
+use Rattle.line.proofs.CardLaws.{both}
+
+-- The limits of letters and digits together.
+pub letter-limits : (b : ℕ) → isLetter b ≡ true → (0x30 ≤ b) × (b ≤ 0x7A)
+letter-limits b e = go (leb 0x61 b && leb b 0x7A) (leb 0x30 b && leb b 0x39) refl refl e
+  where
+    go : (t u : Bool) → (leb 0x61 b && leb b 0x7A) ≡ t → (leb 0x30 b && leb b 0x39) ≡ u → (t || u) ≡ true → (0x30 ≤ b) × (b ≤ 0x7A)
+    go true u f g h =
+        let parts = both (leb 0x61 b) (leb b 0x7A) f in
+        let low = leb-true 0x61 b (parts .0) in
+        (omega arith, leb-true b 0x7A (parts .1))
+    go false true f g h =
+        let parts = both (leb 0x30 b) (leb b 0x39) g in
+        let high = leb-true b 0x39 (parts .1) in
+        (leb-true 0x30 b (parts .0), omega arith)
+    go false false f g h = absurd (false≢true h)
+
+pub letter-no-space : (b : ℕ) → isLetter b ≡ true → b ≡ space → ⊥
+letter-no-space b e s = omega (arith, letter-limits b e .0)
+
+pub letter-fits : (b : ℕ) → isLetter b ≡ true → isLineByte b ≡ true
+letter-fits b e = rw e
+
+pub neither-fits : (b : ℕ) → isLetter b ≡ false → (b ≡ space → ⊥) → isLineByte b ≡ false
+neither-fits b e n = rw (e, ne-eqb b space n)
+
+-- Lists of letters.
+pub letters-bytes : (l : List ℕ) → allBytes isLetter l ≡ true → AreBytes l
+letters-bytes [] e k = lit< tt
+letters-bytes (b ∷ l) e zero = omega (arith, letter-limits b (both (isLetter b) (allBytes isLetter l) e .0) .1)
+letters-bytes (b ∷ l) e (suc k) = letters-bytes l (both (isLetter b) (allBytes isLetter l) e .1) k
+
+all-append : (test : ℕ → Bool) (a b : List ℕ) → allBytes test a ≡ true → allBytes test b ≡ true → allBytes test (a ++ b) ≡ true
+all-append test [] b e f = f
+all-append test (x ∷ a) b e f =
+    let parts = both (test x) (allBytes test a) e in
+    rw (parts .0) (all-append test a b (parts .1) f)
+
+-- Parts of a line.
+pub part-length : (line : List ℕ) (start i : ℕ) → i ≤ length line → length (part line start i) ≡ i - start
+part-length line start i h = simp (length-take, length-drop) (omega arith)
+
+pub part-none : (line : List ℕ) (start : ℕ) → part line start start ≡ []
+part-none line start = let e : start - start ≡ 0 = omega arith in rw e
+
+pub part-more : (line : List ℕ) (start i : ℕ) → start ≤ i → i < length line
+    → part line start (i + 1) ≡ part line start i ++ (byteAt line i ∷ [])
+part-more line start i a h =
+    let e : i + 1 - start ≡ suc (i - start) = omega arith in
+    let f : start + (i - start) ≡ i = omega arith in
+    rw e
+    (take-suc (drop start line) (i - start) 0 (omega (arith, length-drop start line))
+    ∙ rw (getD-drop start line (i - start) 0, f))
+
+pub part-then : (line : List ℕ) (start i stop : ℕ) → start ≤ i → i ≤ stop → part line start stop ≡ part line start i ++ part line i stop
+part-then line start i stop a b =
+    let e : stop - start ≡ (i - start) + (stop - i) = omega arith in
+    let f : start + (i - start) ≡ i = omega arith in
+    rw e (take-add (i - start) (stop - i) (drop start line) ∙ rw (drop-drop, f))
+
+pub part-rest : (line : List ℕ) (start stop : ℕ) → start ≤ stop → drop start line ≡ part line start stop ++ drop stop line
+part-rest line start stop a =
+    let f : start + (stop - start) ≡ stop = omega arith in
+    sym (take-append-drop (stop - start) (drop start line)) ∙ rw (drop-drop, f)
+
+-- Runs of letters.
+pub letters-none : {line : List ℕ} {at : ℕ} → at ≤ length line → Letters line at at
+letters-none {line} {at} h = record { after = omega arith; within = h; letters = rw (part-none line at) }
+
+pub letters-first : {line : List ℕ} {at stop : ℕ} → Letters line at stop → at < stop → isLetter (byteAt line at) ≡ true
+letters-first {line} {at} {stop} s h =
+    let n = stop - (at + 1) in
+    let e : stop - at ≡ suc n = omega arith in
+    let split : part line at stop ≡ byteAt line at ∷ take n (drop (suc at) line) =
+    rw e (ap (take (suc n)) (drop-cons line at 0 (omega (arith, s .within)))) in
+    both (isLetter (byteAt line at)) _ (ap (allBytes isLetter) (sym split) ∙ s .letters) .0
+
+pub letters-then : {line : List ℕ} {at i stop : ℕ} → Letters line at i → Letters line i stop → Letters line at stop
+letters-then {line} {at} {i} {stop} a b =
+    record {
+      after = omega (arith, a .after, b .after);
+      within = b .within;
+      letters =
+          rw (part-then line at i stop (a .after) (b .after))
+          (all-append isLetter (part line at i) (part line i stop) (a .letters) (b .letters));
+    }
+
+pub letters-more : {line : List ℕ} {at i : ℕ} → Letters line at i → i < length line → isLetter (byteAt line i) ≡ true
+    → Letters line at (i + 1)
+letters-more {line} {at} {i} s h e =
+    record {
+      after = omega (arith, s .after);
+      within = omega arith;
+      letters =
+          rw (part-more line at i (s .after) h)
+          (all-append isLetter (part line at i) (byteAt line i ∷ []) (s .letters) (rw e));
+    }
+
+pub past-here : {line : List ℕ} {at i : ℕ} → Letters line at i → isLetter (byteAt line i) ≡ false → PastLetters line at i
+past-here s e = record { taken = s; stops = λ h. e }
+
+pub past-line : {line : List ℕ} {at i : ℕ} → Letters line at i → length line ≤ i → PastLetters line at i
+past-line s h = record { taken = s; stops = λ g. absurd (omega arith) }
