@@ -10,11 +10,11 @@ use mathlib.Core.List.{List, [], _∷_, _++_, map}
 use mathlib.Core.Option.{Option, none, some}
 use lib.Dec.{eqb, leb, lit≤}
 use lib.ListN.{length, take, drop, length-take, length-drop, take-append-drop}
-use lib.Seq.{drop-cons, take-nil, drop-nil, take-take, take-add, take-length, drop-drop, drop-at, length-take-le}
-use borrow.Author.Tests.{leb-true, leb-false, eqb-true, eq-eqb, le-leb, lt-leb}
+use lib.Seq.{drop-cons, drop-nil, take-take, take-add, take-length, drop-drop, drop-at, length-take-le}
+use borrow.Author.Tests.{leb-true, eqb-true, eq-eqb, le-leb}
 use Rattle.grammar.proofs.StandsLaws.{none-some, some-same}
-use Rattle.layout.specs.Bytes.{byteAt, isLetter, sameBytes, allBytes, counted}
-use Rattle.layout.specs.Card.{wordCount, entryAt, entryOf, spellingLength, spelling, padding, cardNumber}
+use Rattle.layout.specs.Bytes.{isLetter, sameBytes, allBytes, counted}
+use Rattle.layout.specs.Card.{wordCount, entryAt, spellingLength, spelling, padding, cardNumber}
 use Rattle.layout.specs.Line.{placeOf, numberOfWord}
 use Rattle.card.specs.Numbers.{numberOf}
 use Rattle.card.proofs.Laws.{same-all}
@@ -112,7 +112,9 @@ module _ (card : List ℕ) (v : ℕ) (ok : cardNumber card ≡ 0) (h : v < wordC
       let last = take 4 (drop 7 after-length) in
       let e : entryAt v + 8 ≡ entryAt v + 1 + 7 = omega arith in
       let back : last ≡ drop 7 (take 11 after-length) =
-      sym (ap (drop 7) (take-add 7 4 after-length) ∙ drop-at (take 7 after-length) last 7 (length-take-le 7 after-length (omega (arith, after-size)))) in
+      sym
+      (ap (drop 7) (take-add 7 4 after-length)
+      ∙ drop-at (take 7 after-length) last 7 (length-take-le 7 after-length (omega (arith, after-size)))) in
       rw e
       (ap (λ (l : List ℕ). numberOf (take 4 l)) (sym (drop-drop 7 (entryAt v + 1) card))
       ∙ ap numberOf (back ∙ ap (drop 7) spelled) ∙ back-same 7 word zeros zeros-only
@@ -192,7 +194,8 @@ module _ (card word : List ℕ) (ok : cardNumber card ≡ 0) (letters : allBytes
           let size = spelling-size card v ok h in
           let parts = both _ (eqb (numberOf (take 4 (drop (entryAt v + 8) card))) (highOf word)) f in
           let same : word ≡ spelling card v =
-          same-key word (spelling card v) letters (spelled .letters) (omega (arith, spelled .some-letters)) (omega (arith, spelled .most-letters))
+          same-key word (spelling card v) letters (spelled .letters)
+          (omega (arith, spelled .some-letters)) (omega (arith, spelled .most-letters))
           (sym (entry-low card v ok h) ∙ eqb-true _ _ (parts .0)) (sym (entry-high card v ok h) ∙ eqb-true _ _ (parts .1)) in
           absurd (false≢true (sym e ∙ same-self word (spelling card v) same))
 

@@ -4,18 +4,18 @@ use native.Mathlib.Omega.{arith}
 use mathlib.Core.Path.{_≡_, refl, sym, _∙_, ap}
 use mathlib.Core.Bool.{Bool, true, false, _&&_, _||_, false≢true}
 use mathlib.Core.List.{List, [], _∷_, _++_}
-use lib.Dec.{eqb, leb, lit<}
+use lib.Dec.{leb, lit<}
 use lib.ListN.{length, take, drop, length-take, length-drop, take-append-drop}
 use lib.Seq.{drop-cons, take-suc, take-add, drop-drop, getD-drop}
 use borrow.Author.Tests.{leb-true, ne-eqb}
 use Rattle.layout.specs.Bytes.{byteAt, isLetter, allBytes}
 use Rattle.layout.specs.Line.{space, isLineByte}
 use Rattle.card.proofs.NumberLaws.{AreBytes}
-use Rattle.line.specs.Words.{part, Letters, NoLetter, PastLetters}
+use Rattle.line.specs.Words.{part, Letters, PastLetters}
 use Rattle.line.proofs.CardLaws.{both}
 
 -- The limits of letters and digits together.
-pub letter-limits : (b : ℕ) → isLetter b ≡ true → (0x30 ≤ b) × (b ≤ 0x7A)
+letter-limits : (b : ℕ) → isLetter b ≡ true → (0x30 ≤ b) × (b ≤ 0x7A)
 letter-limits b e = go (leb 0x61 b && leb b 0x7A) (leb 0x30 b && leb b 0x39) refl refl e
   where
     go : (t u : Bool) → (leb 0x61 b && leb b 0x7A) ≡ t → (leb 0x30 b && leb b 0x39) ≡ u → (t || u) ≡ true → (0x30 ≤ b) × (b ≤ 0x7A)

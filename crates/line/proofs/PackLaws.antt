@@ -1,23 +1,22 @@
 -- Packing letters: each new one counts 256 times as much as the one before, so what is packed is the number of the run, below 2 ^ 56
 -- for up to 7 letters; and what the packed runs of a word say of its two numbers.
-use Prim.Native.Nat.{ℕ, zero, suc, _+_, _-_, _*_, _^_, _≤_, _<_}
+use Prim.Native.Nat.{ℕ, suc, _+_, _-_, _*_, _^_, _≤_, _<_}
 use native.Mathlib.Nat.{pow-le-pow-right, pow-succ'}
 use native.Mathlib.Decide.{ℕ-discrete}
 use native.Mathlib.Omega.{arith}
 use mathlib.Core.Path.{_≡_, refl, sym, _∙_, ap}
 use mathlib.Core.Bool.{true, false, false≢true}
-use mathlib.Core.List.{List, [], _∷_, _++_}
+use mathlib.Core.List.{List, [], _++_}
 use lib.Dec.{lit<}
 use lib.ListN.{length, take, drop, drop-of-length-le}
 use lib.Seq.{take-all, take-at, drop-at}
 use borrow.Author.Tests.{le-leb, lt-leb}
-use Rattle.layout.specs.Bytes.{byteAt, isLetter, allBytes}
+use Rattle.layout.specs.Bytes.{byteAt, isLetter}
 use Rattle.card.specs.Numbers.{numberOf}
 use Rattle.card.proofs.NumberLaws.{number-below, number-append}
 use Rattle.line.specs.Words.{part, Letters, NoLetter, PastLetters}
 use Rattle.line.specs.Packed.{lowOf, highOf, RunOf, WordOf}
 use Rattle.line.specs.declared.Run.{Run}
-use Rattle.line.specs.declared.Word.{Word}
 use Rattle.line.proofs.LetterLaws.{letters-bytes, letters-none, letters-first, letters-more, letters-then}
 use Rattle.line.proofs.LetterLaws.{part-length, part-none, part-more, part-then}
 

@@ -11,11 +11,11 @@ use lib.ListN.{length, drop, replicate}
 use borrow.Author.Tests.{eqb-true, leb-true}
 use Rattle.layout.specs.Bytes.{allBytes, check}
 use Rattle.layout.specs.Card.{cardNumber}
-use Rattle.layout.specs.Line.{isLineByte, wordsOf, numberOfWord, numbersOf, allKnown}
+use Rattle.layout.specs.Line.{isLineByte, numberOfWord, numbersOf, allKnown}
 use Rattle.layout.specs.Answers.{inputNumber, wordsIn}
 use Rattle.line.specs.declared.Accepted.{Accepted}
 use Rattle.line.specs.Words.{WordStarts}
-use Rattle.line.specs.Accepted.{wordsNumber, acceptedWords, Verdict, Accepts}
+use Rattle.line.specs.Accepted.{wordsNumber, Verdict, Accepts}
 use Rattle.line.proofs.CardLaws.{WordTable, word-table}
 use Rattle.line.proofs.KeyLaws.{number-below}
 use Rattle.line.proofs.RefusalLaws.{line-decides}

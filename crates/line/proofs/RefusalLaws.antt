@@ -1,16 +1,16 @@
 -- The refusals in their order: each number is the input's where its condition holds and those before it do not; and an answer with
 -- that number, or with the words of a line that has none, is the one that the definition gives.
-use Prim.Native.Nat.{ℕ, _-_, _≤_, _<_}
+use Prim.Native.Nat.{ℕ, _≤_, _<_}
 use native.Mathlib.Omega.{arith}
 use mathlib.Core.Path.{_≡_, sym, _∙_}
 use mathlib.Core.Bool.{Bool, true, false, cond}
-use mathlib.Core.List.{List, _++_}
+use mathlib.Core.List.{List}
 use lib.Dec.{eqb}
 use lib.ListN.{replicate}
 use borrow.Author.Tests.{eq-eqb, ne-eqb, le-leb, lt-leb}
 use Rattle.layout.specs.Bytes.{allBytes, check}
 use Rattle.layout.specs.Card.{cardNumber}
-use Rattle.layout.specs.Line.{isLineByte, numbersOf, lineNumber}
+use Rattle.layout.specs.Line.{isLineByte, lineNumber}
 use Rattle.layout.specs.Answers.{inputNumber, wordsIn}
 use Rattle.line.specs.declared.Accepted.{Accepted}
 use Rattle.line.specs.Accepted.{wordsNumber, Refused, Verdict, Accepts}
@@ -25,7 +25,7 @@ line-next number others e = rw (eq-eqb number 0 e)
 pub where-zero : {A : Type 0} (number : ℕ) (a b : A) → number ≡ 0 → cond (eqb number 0) a b ≡ a
 where-zero number a b e = rw (eq-eqb number 0 e)
 
-pub where-other : {A : Type 0} (number : ℕ) (a b : A) → (number ≡ 0 → ⊥) → cond (eqb number 0) a b ≡ b
+where-other : {A : Type 0} (number : ℕ) (a b : A) → (number ≡ 0 → ⊥) → cond (eqb number 0) a b ≡ b
 where-other number a b n = rw (ne-eqb number 0 n)
 
 refuses : {card line : List ℕ} {number : ℕ} {r : Accepted} → inputNumber card line ≡ number → (number ≡ 0 → ⊥)

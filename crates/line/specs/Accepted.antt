@@ -29,11 +29,11 @@ pub record Refused (refusal : ℕ) (r : Accepted) : Type 0 where
   pub count : r .count ≡ 0
   pub words : r .words ≡ replicate 24 0
 
--- The refusals that wait for the line's end, from the count of its words and whether the card has them all; and an answer with that
--- number, or with the words.
+-- The refusals that wait for the line's end, by the count of its words and whether the card has them all.
 abbrev pub wordsNumber : ℕ → Bool → ℕ
 wordsNumber count known = check (leb 1 count) 21 (check (leb count 24) 23 (check known 24 0))
 
+-- An answer with that number, and with the words where it is 0.
 pub record Verdict (count : ℕ) (known : Bool) (words : List ℕ) (r : Accepted) : Type 0 where
   pub number : r .number ≡ wordsNumber count known
   pub counts : r .count ≡ cond (eqb (wordsNumber count known) 0) count 0

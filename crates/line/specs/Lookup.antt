@@ -1,5 +1,5 @@
--- Document 01, "Line and rewriting": what looking a word up answers, as the number of the word, or none; and the lookup by the two
--- numbers of an entry.
+-- Document 01, "Line and rewriting": what looking a word up answers, as the number of the word, or none; and the lookup by
+-- the two numbers of an entry.
 use Prim.Native.Nat.{ℕ, zero, suc, _+_}
 use mathlib.Core.Bool.{Bool, true, false, _&&_}
 use mathlib.Core.List.{List}
@@ -15,12 +15,12 @@ abbrev pub lookupFrom : Lookup → Option ℕ
 lookupFrom (At v) = some v
 lookupFrom Missing = none
 
--- Are these the numbers of an entry's first 8 bytes and of its last 4?
+-- A key is two numbers: are they those of an entry's first 8 bytes and of its last 4?
 abbrev pub keyFits : List ℕ → ℕ → ℕ → ℕ → Bool
 keyFits card low high v =
     eqb (numberOf (take 8 (drop (entryAt v) card))) low && eqb (numberOf (take 4 (drop (entryAt v + 8) card))) high
 
--- The first entry that has them, among n entries from v on, and among all.
+-- The first entry that has the key, among n entries from v on, and among all.
 abbrev pub placeOfKey : List ℕ → ℕ → ℕ → ℕ → ℕ → Option ℕ
 placeOfKey card low high v zero = none
 placeOfKey card low high v (suc n) = elim (keyFits card low high v) [ true ↦ some v | false ↦ placeOfKey card low high (suc v) n ]

@@ -7,7 +7,8 @@ use lib.ListN.{length, take, drop}
 use Rattle.layout.specs.Bytes.{byteAt, isLetter, allBytes}
 use Rattle.layout.specs.Line.{space, isLineByte, wordsOf}
 
--- From `start` on the line has the words that it has from `at` on, and as many bytes that do not fit; no space stands at `start`.
+-- From `start` on the line has the words that it has from `at` on, and its bytes fit exactly if they do from `at` on; and no space
+-- stands at `start`.
 pub record WordStarts (line : List ℕ) (at start : ℕ) : Type 0 where
   pub after : at ≤ start
   pub within : start ≤ length line
@@ -25,10 +26,11 @@ pub record Letters (line : List ℕ) (at stop : ℕ) : Type 0 where
   pub within : stop ≤ length line
   pub letters : allBytes isLetter (part line at stop) ≡ true
 
--- They end there: with the line, or before a byte that is no letter.
+-- No letter stands there: the line ends, or has another byte.
 abbrev pub NoLetter : List ℕ → ℕ → Type 0
 NoLetter line stop = stop < length line → isLetter (byteAt line stop) ≡ false
 
+-- All the letters from `at` on stand up to `stop`.
 pub record PastLetters (line : List ℕ) (at stop : ℕ) : Type 0 where
   pub taken : Letters line at stop
   pub stops : NoLetter line stop

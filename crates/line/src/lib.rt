@@ -1,5 +1,5 @@
 // A line, accepted or refused: its bytes, its words and their numbers on the card (document 01, "Line and rewriting", and the shift
-// leader's refusals 22, 21, 23 and 24). Each byte is read once: words are cut, tested and packed in one pass, and looked up as numbers.
+// leader's refusals 22, 21, 23 and 24). One pass over the line cuts, tests and packs its words, which are looked up as numbers.
 use card::Card;
 use card::bytes::eight;
 use card::bytes::four;
@@ -148,12 +148,12 @@ fn look_up(card: &[u8], word: Word) -> Lookup
     let mut next = 0;
     let at = 'entry: loop {
         if next == words {
-            break words;
+            break 'entry words;
         }
         let entry = Card::WORD_TABLE + Card::ENTRY * next;
         if eight(card, entry) == word.low {
             if four(card, entry + 8) == word.high {
-                break next;
+                break 'entry next;
             }
         }
         next += 1;

@@ -1,9 +1,8 @@
 -- No entry before `next` has the word's numbers: a number that differs passes its entry over, and two that agree end the search.
 use Prim.Native.Nat.{ℕ, _-_}
 use native.Mathlib.Omega.{arith}
-use mathlib.Core.Path.{_≡_, sym, _∙_, subst}
+use mathlib.Core.Path.{sym, _∙_, subst}
 use mathlib.Core.Logic.{⊎-elim}
-use borrow.Author.Needs.{needs}
 use Rattle.line.proofs.CardLaws.{WordTable, word-table}
 use Rattle.line.proofs.LookupLaws.{Looking, looking-first, Placed, placed-nowhere, placed-here, Turn}
 use Rattle.line.proofs.LookupLaws.{turn-few, turn-inside, other-low, other-high}

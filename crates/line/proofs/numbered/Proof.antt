@@ -9,6 +9,7 @@ use mathlib.Core.List.{List}
 use mathlib.Core.Option.{some}
 use borrow.Author.Needs.{needs}
 use lib.ListN.{length}
+use Rattle.layout.specs.Card.{cardNumber}
 use Rattle.layout.specs.Line.{numberOfWord}
 use Rattle.line.specs.Words.{part}
 use Rattle.line.specs.Lookup.{lookupFrom}
@@ -25,6 +26,19 @@ Inv-loop card line words₀ count₀ known₀ at₀ words count known at = Passi
 
 abbrev μ-loop : tie.MeasureT-loop
 μ-loop card line words₀ count₀ known₀ at₀ words count known at = length line - at
+
+-- The inputs and the word at hand.
+abbrev cardOf : tie.After-word-at Inv-loop μ-loop → List ℕ
+cardOf w = w .before .before .before .before .before .before .args .card .now
+
+abbrev lineOf : tie.After-word-at Inv-loop μ-loop → List ℕ
+lineOf w = w .before .before .before .before .before .before .args .line .now
+
+abbrev wordOf : tie.After-word-at Inv-loop μ-loop → List ℕ
+wordOf w = part (lineOf w) (w .before .before .loop .at) (w .word-at .result .end)
+
+accepted : (w : tie.After-word-at Inv-loop μ-loop) → cardNumber (cardOf w) ≡ 0
+accepted w = w .before .before .before .before .before .before .pre
 
 word-start-requires : tie.Need-word-start-requires Inv-loop μ-loop
 word-start-requires c κs = zero-le
@@ -43,43 +57,47 @@ refused-requires c κs = tt
 
 returns : tie.Need-returns Inv-loop μ-loop
 returns c =
-    let word = c .before .before .before .before in
-    refuses-byte (word .before .before .before .before .before .before .pre)
-    (word .before .before .loop .inv .fits ∙ byte-refused (word .word-at .ensures .past) (c .before .before .before .if1 .taken) (c .before .if2 .taken))
+    let w : tie.After-word-at Inv-loop μ-loop = c .before .before .before .before in
+    refuses-byte (accepted w)
+    (w .before .before .loop .inv .fits
+    ∙ byte-refused (w .word-at .ensures .past) (c .before .before .before .if1 .taken) (c .before .if2 .taken))
     (c .refused .ensures)
 
 -- The word has ended, at a space or with the line.
 ends : (c : tie.Joined1 Inv-loop μ-loop)
-    → WordEnds (c .before .before .before .before .before .before .before .args .line .now) (c .before .before .before .loop .at) (c .before .word-at .result .end)
+    → let w : tie.After-word-at Inv-loop μ-loop = c .before in WordEnds (lineOf w) (w .before .before .loop .at) (w .word-at .result .end)
 ends c =
-    let letters = c .before .word-at .ensures .past .taken in
-    let inside = c .before .before .loop-test .taken in
+    let w : tie.After-word-at Inv-loop μ-loop = c .before in
+    let letters = w .word-at .ensures .past .taken in
+    let inside = w .before .loop-test .taken in
     ⊎-elim
-    (λ w. ends-at-space letters (c .before .before .before .loop .inv .counted .letter inside) (w .0 .taken) (w .2 .left))
-    (λ w. ends-with-line letters inside (w .left))
+    (λ at. ends-at-space letters (w .before .before .loop .inv .counted .letter inside) (at .0 .taken) (at .2 .left))
+    (λ at. ends-with-line letters inside (at .left))
     (c .if1 .came)
 
 look-up-requires : tie.Need-look-up-requires Inv-loop μ-loop
-look-up-requires c κs = c .before .before .before .before .before .before .before .before .pre
+look-up-requires c κs = accepted (c .before .before)
+
+-- What was looked up is the number of the word.
+looked-up : (c : tie.After-look-up Inv-loop μ-loop)
+    → let w : tie.After-word-at Inv-loop μ-loop = c .before .before .before in
+    lookupFrom (c .look-up .result) ≡ numberOfWord (cardOf w) (wordOf w)
+looked-up c =
+    let w : tie.After-word-at Inv-loop μ-loop = c .before .before .before in
+    word-number (cardOf w) (accepted w) (w .word-at .ensures) (c .look-up .ensures)
 
 enum-known-found : tie.Need-enum-known-found Inv-loop μ-loop
 enum-known-found c = search needs
 
--- What was looked up is the number of the word.
-looked-up : (c : tie.After-look-up Inv-loop μ-loop)
-    → lookupFrom (c .look-up .result)
-    ≡ numberOfWord (c .before .before .before .before .before .before .before .before .before .args .card .now) (part (c .before .before .before .before .before .before .before .before .before .args .line .now) (c .before .before .before .before .before .loop .at) (c .before .before .before .word-at .result .end))
-looked-up c = word-number (c .before .before .before .before .before .before .before .before .before .args .card .now) (c .before .before .before .before .before .before .before .before .before .pre) (c .before .before .before .word-at .ensures) (c .look-up .ensures)
-
-number : (c : tie.After-known-told Inv-loop μ-loop)
-    → numberOfWord (c .before .before .before .before .before .before .before .before .before .before .before .before .args .card .now) (part (c .before .before .before .before .before .before .before .before .before .before .before .before .args .line .now) (c .before .before .before .before .before .before .before .before .loop .at) (c .before .before .before .before .before .before .word-at .result .end))
-    ≡ some (c .before .found .given .0 .0)
-number c = sym (looked-up (c .before .before .before)) ∙ ap lookupFrom (c .before .found .given .1)
+number : (c : tie.After-found Inv-loop μ-loop)
+    → let w : tie.After-word-at Inv-loop μ-loop = c .before .before .before .before .before in
+    numberOfWord (cardOf w) (wordOf w) ≡ some (c .found .given .0 .0)
+number c = sym (looked-up (c .before .before)) ∙ ap lookupFrom (c .found .given .1)
 
 cast-words : tie.Need-cast-words Inv-loop μ-loop
 cast-words c =
-    let word = part (c .before .before .before .before .before .before .before .before .before .before .before .before .args .line .now) (c .before .before .before .before .before .before .before .before .loop .at) (c .before .before .before .before .before .before .word-at .result .end) in
-    record { fits = number-fits (c .before .before .before .before .before .before .before .before .before .before .before .before .args .card .now) word (c .before .before .before .before .before .before .before .before .before .before .before .before .pre) (number c) }
+    let w : tie.After-word-at Inv-loop μ-loop = c .before .before .before .before .before .before in
+    record { fits = number-fits (cardOf w) (wordOf w) (accepted w) (number (c .before)) }
 
 array-write-words : tie.Need-array-write-words Inv-loop μ-loop
 array-write-words c = c .before .before .before .before .if3 .taken
@@ -87,29 +105,31 @@ array-write-words c = c .before .before .before .before .if3 .taken
 enum-told : tie.Need-enum-told Inv-loop μ-loop
 enum-told c = search needs
 
--- What was noted of the word.
+-- What was noted of the word: its number, that it has none, or nothing where there is no room.
 noted : (c : tie.Joined3 Inv-loop μ-loop)
-    → let l = c .before .before .before .before .loop in
-    l .count + 1 ≤ 24
-    → Numbering (c .before .before .before .before .before .before .before .before .args .card .now) (c .before .before .before .before .before .before .before .before .args .line .now) (c .before .before .word-at .result .end) (l .count + 1) (c .if3 .known) (c .if3 .words)
+    → let w : tie.After-word-at Inv-loop μ-loop = c .before .before in
+    let n = w .before .before .loop .count + 1 in
+    n ≤ 24 → Numbering (cardOf w) (lineOf w) (w .word-at .result .end) n (c .if3 .known) (c .if3 .words)
 noted c h =
-    let l = c .before .before .before .before .loop in
-    let At : Bool → List ℕ → Type 0 =
-    λ known words. Numbering (c .before .before .before .before .before .before .before .before .args .card .now) (c .before .before .before .before .before .before .before .before .args .line .now) (c .before .before .word-at .result .end) (l .count + 1) known words in
-    let so-far = l .inv .numbering (omega (arith, h)) in
+    let w : tie.After-word-at Inv-loop μ-loop = c .before .before in
+    let n = w .before .before .loop .count + 1 in
+    let After : Bool → List ℕ → Type 0 = Numbering (cardOf w) (lineOf w) (w .word-at .result .end) n in
+    let before = w .before .before .loop .inv .numbering (omega (arith, h)) in
     ⊎-elim
-    (λ w. subst₂ At (sym (w .6)) (sym (w .5))
-    (numbering-known so-far (ends (c .before)) (w .0 .taken)
+    (λ at. subst₂ After (sym (at .6)) (sym (at .5))
+    (numbering-known before (ends (c .before)) (at .0 .taken)
     (number
     (record {
-      before = record { before = record { before = record { before = record { before = c .before; if3 = w .0 }; look-up = w .1 }; match = w .2 }; found = w .3 };
-      known-told = w .4;
+      before =
+          record { before = record { before = record { before = c .before; if3 = at .0 }; look-up = at .1 }; match = at .2 };
+      found = at .3;
     }))))
     (⊎-elim
-    (λ w. subst₂ At (sym (w .5)) (sym (w .4))
-    (numbering-unknown so-far (ends (c .before)) (w .0 .taken)
-    (sym (looked-up (record { before = record { before = c .before; if3 = w .0 }; look-up = w .1 })) ∙ ap lookupFrom (w .3 .given .1))))
-    (λ w. absurd (omega (arith, h, w .0 .left))))
+    (λ at. subst₂ After (sym (at .5)) (sym (at .4))
+    (numbering-unknown before (ends (c .before)) (at .0 .taken)
+    (sym (looked-up (record { before = record { before = c .before; if3 = at .0 }; look-up = at .1 }))
+    ∙ ap lookupFrom (at .3 .given .1))))
+    (λ at. absurd (omega (arith, h, at .0 .left))))
     (c .if3 .came)
 
 add-count : tie.Need-add-count Inv-loop μ-loop
@@ -122,13 +142,15 @@ loop-less : tie.Need-loop-less Inv-loop μ-loop
 loop-less c = less-left (ends (c .before .before)) (c .word-start2 .ensures)
 
 loop-again : tie.Need-loop-again Inv-loop μ-loop
-loop-again c = passing-more (c .before .before .before .before .before .loop .inv) (ends (c .before .before)) (c .word-start2 .ensures) (noted (c .before))
+loop-again c =
+    passing-more (c .before .before .before .before .before .loop .inv) (ends (c .before .before)) (c .word-start2 .ensures) (noted (c .before))
 
 verdict-requires : tie.Need-verdict-requires Inv-loop μ-loop
 verdict-requires c κs = tt
 
 returns-2 : tie.Need-returns-2 Inv-loop μ-loop
-returns-2 c = passed (c .before .before .before .before .before .before .pre) (c .before .before .loop .inv) (c .before .loop-test .left) (c .verdict .ensures)
+returns-2 c =
+    passed (c .before .before .before .before .before .before .pre) (c .before .before .loop .inv) (c .before .loop-test .left) (c .verdict .ensures)
 
 pub numbered-spec : {M : Type 1} → statement M
 numbered-spec =
