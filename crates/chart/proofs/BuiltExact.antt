@@ -25,6 +25,7 @@ use Rattle.chart.specs.Tables.{grammarIn}
 use Rattle.chart.specs.Fill.{Between, Closed}
 use Rattle.chart.specs.Built.{Buildable, RoomLent, TablesLent, DecodedAll, BuiltRoom}
 use Rattle.chart.proofs.SetLaws.{zero-at}
+use Rattle.chart.proofs.RowLaws.{rows-none}
 use Rattle.chart.proofs.FillLaws.{start-between}
 use Rattle.chart.proofs.CardFits.{counts-fit, lefts-below}
 
@@ -34,12 +35,12 @@ all-zero l e k = ap (λ (m : List ℕ). getD m k 0) e ∙ zero-at (length l) k
 pub tables-start : {g : List Rule} (card words : List ℕ) (n room : ℕ) {chart marks index covers sets : List ℕ} → Buildable card words n
     → RoomLent room chart → TablesLent n (nonterminalCount card) marks index sets covers
     → Between g n (nonterminalCount card) room chart marks index covers sets 0
-tables-start card words n room {marks = marks} {index = index} b l t =
+tables-start card words n room {marks = marks} {index = index} {sets = sets} b l t =
     start-between (b .short) (counts-fit card (b .accepted) .symbols .1) (l .small) (l .there) (t .marksThere) (t .indexThere)
-    (t .setsThere) (all-zero marks (t .marksZero)) (all-zero index (t .indexZero)) (t .coversThere) (t .coversZero)
+    (rows-none n sets (t .setsThere) (all-zero sets (t .setsZero))) (all-zero marks (t .marksZero)) (all-zero index (t .indexZero)) (t .coversThere) (t .coversZero)
 
 -- Tables of zeros that are long enough for m words and M nonterminals are so for fewer.
-pub tables-lent : (n N m M a b c d : ℕ) → n ≤ m → N ≤ M → M * m * m < a → 3 * (spans m * M) ≤ b → 2 * spans m ≤ c → spans m * M ≤ d
+pub tables-lent : (n N m M a b c d : ℕ) → n ≤ m → N ≤ M → M * m * m < a → 3 * (spans m * M) ≤ b → 2 * spans m + 2 * (m + 1) ≤ c → spans m * M ≤ d
     → TablesLent n N (replicate a 0) (replicate b 0) (replicate c 0) (replicate d 0)
 tables-lent n N m M a b c d h k x y z w =
     let marks : N * n * n ≤ M * m * m = mul-le-mul (mul-le-mul k h) h in

@@ -1,8 +1,7 @@
 -- What the loops of `cell` turn on. The bits of a set are walked from the lowest up; a production that lacks an element or has another
 -- left side adds nothing, so those that a set leaves out may be passed over.
-use Prim.Native.Nat.{ℕ, zero, suc, _+_, _*_, _-_, _/_, _%_, _^_, _≤_, _<_, min}
+use Prim.Native.Nat.{ℕ, zero, suc, _+_, _-_, _^_, _≤_, _<_}
 use native.Mathlib.Omega.{arith}
-use native.Mathlib.Nat.{pow-succ'}
 use native.Mathlib.Numerals.{add-one}
 use native.Mathlib.Decide.{decLt, ℕ-discrete}
 use mathlib.Core.Path.{_≡_, refl, sym, _∙_, ap, ap₂, subst}
@@ -10,11 +9,9 @@ use mathlib.Core.Logic.{_⊎_, inl, inr}
 use mathlib.Core.Bool.{Bool, true, false}
 use mathlib.Core.List.{List, [], _∷_, _++_, append-nil}
 use mathlib.Core.Option.{Option, none, some}
-use lib.Bits.{bitAnd}
-use lib.Count.{trailingZeros}
+use lib.Bits.{bitOr}
 use lib.Dec.{eqb}
 use lib.ListN.{length, getD, getElem?, take, length-take}
-use lib.Pow.{shr-shr}
 use borrow.Author.Tests.{eq-eqb, ne-eqb}
 use Rattle.grammar.specs.Lists.{concatMap, only}
 use Rattle.grammar.specs.Rewriting.{Rule, Lexical, Spine, Action, Take, Keep, Give}
@@ -24,14 +21,16 @@ use Rattle.grammar.specs.Chart.{Record, recorded, nowhere}
 use Rattle.card.specs.Productions.{ruleFrom}
 use Rattle.card.specs.declared.Production.{Production}
 use Rattle.card.specs.declared.Production.the-variants.{Word}
-use Rattle.chart_model.specs.Build.{flatUp, places, barePlaces, byAction, byRule, byWord, byRuleOver, byProduction, candidates}
+use Rattle.chart_model.specs.Build.{flatUp, places, barePlaces, byAction, byRule, dependentFirst, turned, ruleAt, byWord, byRuleOver, byProduction, candidates}
+use Rattle.chart_model.proofs.BuildLaws.{turned-within, turned-twice}
 use Rattle.records.specs.Bits.{bitOf}
 use Rattle.records.specs.Room.{chartIn}
-use Rattle.records.specs.Index.{spanAt, Indexed}
-use Rattle.chart.specs.Tables.{FirstAbsent, SecondAbsent, leftIs, packedRule, rulesFrom, grammarIn, byOne, chosen, CellSet, thisWord, isWordOf, Sorted}
+use Rattle.records.specs.Index.{Indexed}
+use Rattle.chart.specs.Tables.{FirstAbsent, SecondAbsent, leftIs, packedRule, rulesFrom, grammarIn, byOne, chosen, CellSet, thisWord, isWordOf, Least, Without, Splits, Turns}
 use Rattle.steps.proofs.StepLaws.{flatUp-add, flatUp-none}
 use Rattle.steps.proofs.StepCover.{Advancing, advance-skip}
-use Rattle.records.proofs.BitLaws.{bitOf-below, bitOf-value, bitOf-and, bit-clear, one-shifted, halved-out}
+use Rattle.records.proofs.BitLaws.{bitOf-below, bitOf-zero, bitOf-or, bitOf-power, bitOf-other}
+use Rattle.chart.proofs.BitSets.{or-bits, without-has, without-lacks, bit-one, Walk, walk-has, walk-passed, walk-end}
 
 -- Rules: the one at a place, and the first `many`.
 pub rule-there : (rules : List ℕ) (p : ℕ) → p < length rules
@@ -98,17 +97,14 @@ not-own b A i k j p (Spine A′ a [] D (B ∷ C ∷ after)) h = refl
 pub indexed-same : {n N : ℕ} {b c : List Record} {index : List ℕ} → c ≡ b → Indexed n N b index → Indexed n N c index
 indexed-same {n} {N} {index = index} e h = subst (λ b. Indexed n N b index) (sym e) h
 
-pub sorted-same : {g : List Rule} {n : ℕ} {b c : List Record} {sets : List ℕ} → c ≡ b → Sorted g n b sets → Sorted g n c sets
-sorted-same {g} {n} {sets = sets} e h = subst (λ b. Sorted g n b sets) (sym e) h
+pub splits-same : {g : List Rule} {i j splits : ℕ} {b c : List Record} {both : List ℕ} → c ≡ b → Splits g b i j both splits
+    → Splits g c i j both splits
+splits-same {g} {i} {j} {splits} {both = both} e h = subst (λ b. Splits g b i j both splits) (sym e) h
 
 module _ {n N room A i j base : ℕ} {F : List Record → ℕ → List Record} {from to : ℕ} {old oldMarks oldCovers new marks covers : List ℕ}
     {count y after : ℕ} (l : Advancing n N room A i j base F from to old oldMarks oldCovers count new marks covers y after) where
-  pub advance-at : {y′ : ℕ} → y′ ≡ y → Advancing n N room A i j base F from to old oldMarks oldCovers count new marks covers y′ after
+  advance-at : {y′ : ℕ} → y′ ≡ y → Advancing n N room A i j base F from to old oldMarks oldCovers count new marks covers y′ after
   advance-at e = rw e l
-
-  pub advance-same : {new′ marks′ covers′ : List ℕ} {after′ : ℕ} → new′ ≡ new → marks′ ≡ marks → covers′ ≡ covers → after′ ≡ after
-      → Advancing n N room A i j base F from to old oldMarks oldCovers count new′ marks′ covers′ y after′
-  advance-same p q r s = rw (p, q, r, s) l
 
 -- Places at which two functions agree; places past the last at which there is anything.
 flatUp-same : {A : Type 0} (f g : ℕ → List A) (from m : ℕ) → ((k : ℕ) → from ≤ k → k < from + m → f k ≡ g k)
@@ -125,53 +121,84 @@ flatUp-end f from a m l h =
     ∙ ap (λ r. flatUp f from a ++ r) (flatUp-none f (from + a) (m - a) (λ k s t. h k s (omega arith)))
     ∙ append-nil (flatUp f from a)
 
--- A bit that two sets do not share is missing in one of them.
-pub and-zero : (p x y : ℕ) → bitOf p (bitAnd x y) ≡ 0 → (bitOf p x ≡ 0) ⊎ (bitOf p y ≡ 0)
-and-zero p x y e = elim (ℕ-discrete (bitOf p x) 0) [
-  | yes z ↦ inl z
-  | no d ↦ inr (omega (arith, bitOf-and p x y))
-]
+-- Turns. Those of a rule are turns of splits of its span; and at the others the rule adds nothing.
+module _ {g : List Rule} {b : List Record} {both : List ℕ} {splits p sum turns : ℕ} {back : Bool} (i j : ℕ)
+    (s : Splits g b i j both splits) (t : Turns both splits p back sum turns) (e : sum ≡ i + j) where
+  pub turn-within : (m : ℕ) → bitOf m turns ≡ 1 → (i < m) × (m < j)
+  turn-within m o =
+      let (k, x, y, z) = t .only m o in
+      let (u, v) = s .inside k x in
+      subst (λ (x : ℕ). (i < x) × (x < j)) (sym (z ∙ ap (λ (x : ℕ). turned back x k) e)) (turned-within back i j k u v)
 
--- A split at which the bit of p is not in both sets: production p adds nothing there.
-pub split-idle : {n : ℕ} {b : List Record} {sets : List ℕ} (rules : List ℕ) (many A i k j p : ℕ)
-    → Sorted (grammarIn rules many) n b sets → p < many → p < length rules → i < k → k < j → j ≤ n → {first second : ℕ}
-    → first ≡ getD sets (2 * spanAt i k) 0 → second ≡ getD sets (2 * spanAt k j + 1) 0 → p < 64
-    → bitAnd (bitAnd first second) ((1 * 2 ^ p) % 2 ^ 64) ≡ 0 → byRule b A i k j p (packedRule (getD rules p 0)) ≡ []
-split-idle {n} {b} rules many A i k j p sorted l there ik kj jn {first} {second} e₁ e₂ h z =
-    let r = packedRule (getD rules p 0) in
-    let stands = grammar-there rules many p l there in
-    let bit : bitAnd (bitAnd first second) (2 ^ p) ≡ 0 = ap (bitAnd (bitAnd first second)) (sym (one-shifted p 64 h)) ∙ z in
-    elim (and-zero p first second (bit-clear p (bitAnd first second) bit)) [
-      | inl x ↦ absent-first b A i k j p r (sorted .firsts p r i k stands ik (omega arith) (ap (bitOf p) (sym e₁) ∙ x))
-      | inr y ↦ absent-second b A i k j p r (sorted .seconds p r k j stands kj jn (ap (bitOf p) (sym e₂) ∙ y))
-    ]
+  pub turn-idle : (A : ℕ) (r : Rule) → getElem? g p ≡ some r → back ≡ dependentFirst r → (m : ℕ) → i < m → m < j → bitOf m turns ≡ 0
+      → ruleAt b A i j p r m ≡ []
+  turn-idle A r stands first m im mj z =
+      let k = turned back (i + j) m in
+      let (u, v) = turned-within back i j m im mj in
+      ap (λ (x : Bool). byRule b A i (turned x (i + j) m) j p r) (sym first)
+      ∙ elim (s .absent p r k stands u v (missing k (turned-twice back (i + j) m (omega arith)) (ℕ-discrete (bitOf k splits) 0))) [
+        | inl x ↦ absent-first b A i k j p r x
+        | inr y ↦ absent-second b A i k j p r y
+      ]
+    where
+      missing : (k : ℕ) → turned back (i + j) k ≡ m → Dec (bitOf k splits ≡ 0) → (bitOf k splits ≡ 0) ⊎ (bitOf p (getD both k 0) ≡ 0)
+      missing k q (yes x) = inl x
+      missing k q (no d) =
+          inr (t .has k (bit-one k splits d) (ap (λ (x : ℕ). bitOf (turned back x k) turns) e ∙ (ap (λ (x : ℕ). bitOf x turns) q ∙ z)))
 
--- The lowest bit of a number that is not 0: it is there, no bit is below it, and it is within the width.
-abbrev pub Lowest : ℕ → ℕ → ℕ → Type 0
-Lowest w x s = (s < w) × (bitOf s x ≡ 1) × ((q : ℕ) → q < s → bitOf q x ≡ 0)
+pub turned-small : (back : Bool) (sum k : ℕ) → k ≤ sum → turned back sum k ≤ sum
+turned-small true sum k h = omega arith
+turned-small false sum k h = h
 
-pub lowest : (w x : ℕ) → x < 2 ^ w → (x ≡ 0 → ⊥) → Lowest w x (trailingZeros w x)
-unfolding trailingZeros
-lowest zero x h d = absurd (d (omega arith))
-lowest (suc w) x h d = go (ℕ-discrete (x % 2) 0) (lowest w (x / 2))
-  where
-    up : {s : ℕ} → x % 2 ≡ 0 → Lowest w (x / 2) s → Lowest (suc w) x (suc s)
-    up {s} even (a, b, c) = (omega arith, b, below)
-      where
-        below : (q : ℕ) → q < suc s → bitOf q x ≡ 0
-        below zero l = even
-        below (suc q) l = c q (omega arith)
+-- The turns of the splits that were looked at.
+pub record TurnsSoFar (both : List ℕ) (splits p : ℕ) (back : Bool) (sum rest turns : ℕ) : Type 0 where
+  pub left : (k : ℕ) → bitOf k rest ≡ 1 → bitOf k splits ≡ 1
+  pub has : (k : ℕ) → bitOf k splits ≡ 1 → bitOf k rest ≡ 0 → bitOf (turned back sum k) turns ≡ 0 → bitOf p (getD both k 0) ≡ 0
+  pub only : (m : ℕ) → bitOf m turns ≡ 1 → (k : ℕ) × (bitOf k splits ≡ 1) × (bitOf p (getD both k 0) ≡ 1) × (m ≡ turned back sum k)
 
-    go : Dec (x % 2 ≡ 0) → (x / 2 < 2 ^ w → (x / 2 ≡ 0 → ⊥) → Lowest w (x / 2) (trailingZeros w (x / 2)))
-        → Lowest (suc w) x (trailingZeros (suc w) x)
-    go (yes even) half = rw even (up even (half (omega (arith, pow-succ' 2 w)) (omega arith)))
-    go (no odd) half =
-        let one : x % 2 ≡ 1 = omega arith in
-        rw one (omega arith, one, λ q l. absurd (omega arith))
+pub turns-none : (both : List ℕ) (splits p : ℕ) (back : Bool) (sum : ℕ) → TurnsSoFar both splits p back sum splits 0
+turns-none both splits p back sum =
+    record {
+      left = λ k o. o;
+      has = λ k o z y. absurd (omega arith);
+      only = λ m o. absurd (omega (arith, bitOf-zero m));
+    }
 
--- Bit p + s of a set is bit s of what p halvings leave.
-bitOf-later : (p s x : ℕ) → bitOf (p + s) x ≡ bitOf s (x / 2 ^ p)
-bitOf-later p s x = bitOf-value (p + s) x ∙ (ap (λ (m : ℕ). m % 2) (sym (shr-shr x p s)) ∙ sym (bitOf-value s (x / 2 ^ p)))
+module _ {both : List ℕ} {splits p sum rest turns k rest′ turns′ : ℕ} {back : Bool} (t : TurnsSoFar both splits p back sum rest turns)
+    (w : Without rest k rest′) where
+  pub turns-more : bitOf k splits ≡ 1 → bitOf p (getD both k 0) ≡ 1 → turns′ ≡ bitOr turns (2 ^ turned back sum k)
+      → TurnsSoFar both splits p back sum rest′ turns′
+  turns-more there one e =
+      record {
+        left = λ q o. t .left q (without-has w q o);
+        has = λ q o z y.
+            let (u, v) = or-bits (turned back sum q) turns (2 ^ turned back sum k) (sym (ap (bitOf (turned back sum q)) e) ∙ y) in
+            elim (without-lacks w q z) [
+              | inl s ↦ absurd (omega (arith, bitOf-power (turned back sum k), v, ap (λ (x : ℕ). bitOf (turned back sum x) (2 ^ turned back sum k)) s))
+              | inr s ↦ t .has q o s u
+            ];
+        only = λ m o. elim (ℕ-discrete m (turned back sum k)) [
+          | yes s ↦ (k, there, one, s)
+          | no d ↦
+              t .only m (omega (arith, ap (bitOf m) e, bitOf-or m turns (2 ^ turned back sum k), bitOf-other m (turned back sum k) d))
+        ];
+      }
+
+  pub turns-same : bitOf p (getD both k 0) ≡ 0 → turns′ ≡ turns → TurnsSoFar both splits p back sum rest′ turns′
+  turns-same zero-there e =
+      rw e
+      record {
+        left = λ q o. t .left q (without-has w q o);
+        has = λ q o z y. elim (without-lacks w q z) [
+          | inl s ↦ ap (λ (x : ℕ). bitOf p (getD both x 0)) s ∙ zero-there
+          | inr s ↦ t .has q o s y
+        ];
+        only = t .only;
+      }
+
+pub turns-end : {both : List ℕ} {splits p sum rest turns : ℕ} {back : Bool} → TurnsSoFar both splits p back sum rest turns → rest ≡ 0
+    → Turns both splits p back sum turns
+turns-end t z = record { has = λ k o. t .has k o (ap (bitOf k) z ∙ bitOf-zero k); only = t .only }
 
 -- What a set chooses: the rule of p where its bit is set, and nothing where it is not.
 module _ (set : ℕ) (rules : List ℕ) (at : ℕ → ℕ → Bool) (b : List Record) (A i len : ℕ) where
@@ -181,53 +208,41 @@ module _ (set : ℕ) (rules : List ℕ) (at : ℕ → ℕ → Bool) (b : List Re
   chosen-lacks : (p : ℕ) → (bitOf p set ≡ 1 → ⊥) → chosen set rules at b A i len p ≡ []
   chosen-lacks p h = rw (ne-eqb (bitOf p set) 1 h)
 
-  -- The same by what p halvings leave: the next bit that is set, those below it, and none.
-  module _ (p left : ℕ) (e : left ≡ set / 2 ^ p) where
-    later : (s : ℕ) → bitOf (p + s) set ≡ bitOf s left
-    later s = bitOf-later p s set ∙ ap (bitOf s) (sym e)
+  -- The same in a walk over the set: the next number, those passed on the way to it, and those past the last.
+  module _ (rest y : ℕ) (walk : Walk set rest y) where
+    pub chosen-next : (p : ℕ) → Least rest p → p < length rules
+        → byRuleOver at b A i len p (packedRule (getD rules p 0)) ≡ chosen set rules at b A i len p
+    chosen-next p least there =
+        sym (ap (byOne at b A i len p) (rule-there rules p there)) ∙ sym (chosen-has p (walk-has walk least))
 
-    pub chosen-next : (s : ℕ) (c : List Record) → c ≡ b → p + s < length rules → bitOf s left ≡ 1
-        → byRuleOver at c A i len (p + s) (packedRule (getD rules (p + s) 0)) ≡ chosen set rules at b A i len (p + s)
-    chosen-next s c same there odd =
-        ap (λ (l : List Record). byRuleOver at l A i len (p + s) (packedRule (getD rules (p + s) 0))) same
-        ∙ (sym (ap (byOne at b A i len (p + s)) (rule-there rules (p + s) there)) ∙ sym (chosen-has (p + s) (later s ∙ odd)))
+    pub chosen-passed : (p : ℕ) → Least rest p → (q : ℕ) → y ≤ q → q < p → chosen set rules at b A i len q ≡ []
+    chosen-passed p least q l h = chosen-lacks q (λ o. absurd (omega (arith, walk-passed walk least q l h)))
 
-    pub chosen-before : (s : ℕ) → ((q : ℕ) → q < s → bitOf q left ≡ 0) → (q : ℕ) → p ≤ q → q < p + s
-        → chosen set rules at b A i len q ≡ []
-    chosen-before s empty q l h =
-        let from : q ≡ p + (q - p) = omega arith in
-        let clear : bitOf q set ≡ 0 = ap (λ (m : ℕ). bitOf m set) from ∙ (later (q - p) ∙ empty (q - p) (omega arith)) in
-        chosen-lacks q (λ o. absurd (omega arith))
+    pub chosen-after : (q : ℕ) → rest ≡ 0 → y ≤ q → chosen set rules at b A i len q ≡ []
+    chosen-after q z l = chosen-lacks q (λ o. absurd (omega (arith, walk-end walk z q l)))
 
-    pub chosen-after : (q : ℕ) → left ≡ 0 → p ≤ q → chosen set rules at b A i len q ≡ []
-    chosen-after q z l =
-        let clear : bitOf q set ≡ 0 = halved-out q p set (sym e ∙ z) l in
-        chosen-lacks q (λ o. absurd (omega arith))
-
--- The walk goes on after bit p + s.
-pub halved-past : (set p s left : ℕ) → left ≡ set / 2 ^ p → left / 2 ^ s / 2 ≡ set / 2 ^ (p + s + 1)
-halved-past set p s left e =
-    ap (λ (x : ℕ). x / 2 ^ s / 2) e ∙ (ap (λ (x : ℕ). x / 2) (shr-shr set p s) ∙ shr-shr set (p + s) 1)
-
--- Bit p + s is within the set, and is that of one of the first `many` productions.
-pub bit-within : {g : List Rule} {at : ℕ → ℕ → Bool} {b : List Record} {A i len set : ℕ} (many p s left : ℕ)
-    → CellSet g at b A i len set → left ≡ set / 2 ^ p → length g ≤ many → bitOf s left ≡ 1 → p + s < many
-bit-within {set = set} many p s left cell e l one = elim (decLt (p + s) many) [
+-- A number of the set is that of one of the first `many` productions.
+pub bit-within : {g : List Rule} {at : ℕ → ℕ → Bool} {b : List Record} {A i len set : ℕ} (many p : ℕ)
+    → CellSet g at b A i len set → length g ≤ many → bitOf p set ≡ 1 → p < many
+bit-within {set = set} many p cell l one = elim (decLt p many) [
   | yes h ↦ h
-  | no h ↦ absurd (omega (arith, cell .noMore (p + s) (omega arith), bitOf-later p s set, ap (bitOf s) e))
+  | no h ↦ absurd (omega (arith, cell .noMore p (omega arith)))
 ]
 
 -- Places at which a loop has nothing to add.
-pub advance-pass : {n N room A i j base : ℕ} {F : List Record → ℕ → List Record} {from to : ℕ}
-    {old oldMarks oldCovers new marks covers : List ℕ} {count y after : ℕ} (s : ℕ) → y + s ≤ to
-    → ((q : ℕ) → y ≤ q → q < y + s → F (chartIn old base) q ≡ [])
-    → Advancing n N room A i j base F from to old oldMarks oldCovers count new marks covers y after
-    → Advancing n N room A i j base F from to old oldMarks oldCovers count new marks covers (y + s) after
-advance-pass {y = y} zero h empty l = advance-at l (omega arith)
-advance-pass {y = y} (suc s) h empty l =
-    advance-at
-    (advance-skip (advance-pass s (omega arith) (λ q a b. empty q a (omega arith)) l) (omega arith)
-    (empty (y + s) (omega arith) (omega arith))) (omega arith)
+module _ {n N room A i j base : ℕ} {F : List Record → ℕ → List Record} {from to : ℕ} {old oldMarks oldCovers new marks covers : List ℕ}
+    {count y after : ℕ} (l : Advancing n N room A i j base F from to old oldMarks oldCovers count new marks covers y after) where
+  advance-pass : (s : ℕ) → y + s ≤ to → ((q : ℕ) → y ≤ q → q < y + s → F (chartIn old base) q ≡ [])
+      → Advancing n N room A i j base F from to old oldMarks oldCovers count new marks covers (y + s) after
+  advance-pass zero h empty = advance-at l (omega arith)
+  advance-pass (suc s) h empty =
+      advance-at
+      (advance-skip (advance-pass s (omega arith) (λ q a b. empty q a (omega arith))) (omega arith)
+      (empty (y + s) (omega arith) (omega arith))) (omega arith)
+
+  pub advance-to : (p : ℕ) → y ≤ p → p ≤ to → ((q : ℕ) → y ≤ q → q < p → F (chartIn old base) q ≡ [])
+      → Advancing n N room A i j base F from to old oldMarks oldCovers count new marks covers p after
+  advance-to p u v empty = advance-at (advance-pass (p - y) (omega arith) (λ q a b. empty q a (omega arith))) (omega arith)
 
 -- The productions of a set that has all that add to a cell add its candidates.
 by-one : (at : ℕ → ℕ → Bool) (b : List Record) (A i len p : ℕ) (o : Option Rule)

@@ -24,10 +24,10 @@ use Rattle.records.specs.declared.index.Range.{Range}
 use Rattle.records.specs.Bits.{bitOf, holdsBit}
 use Rattle.records.specs.Room.{chartIn, stateOf, footThere, FootFits, markSlot, markBit, markOf, Marked, Working}
 use Rattle.records.specs.Index.{spans, spanAt, cellAt, emptyRange, rangeIn, bareIn, Indexed}
-use Rattle.chart.specs.Tables.{FirstAbsent, SecondAbsent, Sorted, bareFrom, Finished}
+use Rattle.chart.specs.Tables.{FirstAbsent, SecondAbsent, Rows, Sorted, bareFrom, Finished}
 use Rattle.chart.specs.Fill.{Classified, Noted, Between}
 use Rattle.records.proofs.RoomLaws.{chart-length, foot-at}
-use Rattle.records.proofs.TableLaws.{span-same, cell-same}
+use Rattle.records.proofs.TableLaws.{span-below, span-same, cell-same}
 use Rattle.records.proofs.CoverLaws.{covered-start}
 
 -- A cell without records may be begun.
@@ -209,7 +209,7 @@ empty-range : (index : List ℕ) (cell : ℕ) → ((k : ℕ) → getD index k 0 
 empty-range index cell zeros = rw (zeros (3 * cell), zeros (3 * cell + 1), zeros (3 * cell + 2))
 
 pub start-between : {g : List Rule} {n N room : ℕ} {chart marks index covers sets : List ℕ} → n ≤ 24 → N ≤ 16 → room ≤ 65535
-    → 16 * room ≤ length chart → N * n * n < length marks → 3 * (spans n * N) ≤ length index → 2 * spans n ≤ length sets
+    → 16 * room ≤ length chart → N * n * n < length marks → 3 * (spans n * N) ≤ length index → Rows n sets
     → ((k : ℕ) → getD marks k 0 ≡ 0) → ((k : ℕ) → getD index k 0 ≡ 0) → spans n * N ≤ length covers
     → covers ≡ replicate (length covers) 0 → Between g n N room chart marks index covers sets 0
 start-between {n = n} {N} {marks = marks} {index} a b c d e f h unmarked zeros there uncovered =
@@ -230,7 +230,7 @@ start-between {n = n} {N} {marks = marks} {index} a b c d e f h unmarked zeros t
       };
       within = λ k. omega (arith, zeros k);
       sorted = record {
-        long = h;
+        rows = h;
         firsts = λ p r i k x y z w. first-empty i k r;
         seconds = λ p r k j x y z w. second-empty k j r;
       };
@@ -293,20 +293,20 @@ module _ (g : List Rule) (n A i j : ℕ) (A16 : A < 16) (ij : i < j) (jn : j ≤
   pub sorted-more : Sorted g n b new
   sorted-more =
       record {
-        long = rw (noted .sameLength) (old .long);
+        rows = noted .rows;
         firsts = λ p r x y e l m z. elim (ℕ-discrete (spanAt i j) (spanAt x y)) [
           | yes s ↦ let (u, v) = span-same n i j x y ij jn l m s in
               subst₂ (λ (x y : ℕ). FirstAbsent b x y r) u v
               (first-here p r e (subst (λ (k : ℕ). bitOf p (getD new (2 * k) 0) ≡ 0) (sym s) z))
           | no d ↦ first-kept b c x y r (λ B. places-other B x y (apart x y d) grown) (λ B. bares-other B x y (apart x y d) grown)
-              (old .firsts p r x y e l m (rw (noted .elsewhere (2 * spanAt x y) (omega arith) (omega arith)) at z))
+              (old .firsts p r x y e l m (rw (noted .elsewhere (2 * spanAt x y) (omega (arith, span-below n x y l m)) (omega arith) (omega arith)) at z))
         ];
         seconds = λ p r x y e l m z. elim (ℕ-discrete (spanAt i j) (spanAt x y)) [
           | yes s ↦ let (u, v) = span-same n i j x y ij jn l m s in
               subst₂ (λ (x y : ℕ). SecondAbsent b x y r) u v
               (second-here p r e (subst (λ (k : ℕ). bitOf p (getD new (2 * k + 1) 0) ≡ 0) (sym s) z))
           | no d ↦ second-kept b c x y r (λ B. places-other B x y (apart x y d) grown) (λ B. bares-other B x y (apart x y d) grown)
-              (old .seconds p r x y e l m (rw (noted .elsewhere (2 * spanAt x y + 1) (omega arith) (omega arith)) at z))
+              (old .seconds p r x y e l m (rw (noted .elsewhere (2 * spanAt x y + 1) (omega (arith, span-below n x y l m)) (omega arith) (omega arith)) at z))
         ];
       }
     where

@@ -1,7 +1,7 @@
--- Spans, lengths and all: each is a fold of the level below, and `Filled` goes with the fold, one turn at a time.
+-- Spans, ends and all: each is a fold of the level below, and `Filled` goes with the fold, one turn at a time.
 -- A nonterminal of whose productions none is in the span's set has no candidates, so its turn may be left out.
-use Prim.Native.Nat.{ℕ, zero, suc, _+_, _-_, _*_, _≤_, _<_, zero-le}
-use native.Mathlib.Nat.{le-refl}
+use Prim.Native.Nat.{ℕ, zero, suc, _+_, _-_, _*_, _≤_, _<_}
+use native.Mathlib.Nat.{le-refl, add-zero}
 use native.Mathlib.Decide.{ℕ-discrete, decLe}
 use native.Mathlib.Omega.{arith}
 use mathlib.Core.Path.{_≡_, refl, sym, _∙_, ap, subst}
@@ -19,18 +19,20 @@ use Rattle.grammar.specs.Input.{wordIs}
 use Rattle.grammar.specs.Chart.{Record}
 use Rattle.grammar.proofs.StandsLaws.{some-same, none-some}
 use Rattle.layout.specs.Records.{chartBytes}
-use Rattle.chart_model.specs.Build.{foldUp, places, byRule, byWord, byRuleOver, candidates, addEach, fillCell, closeSpan, closeLength}
+use Rattle.chart_model.specs.Build.{foldUp, places, byRule, byWord, byRuleOver, candidates, addEach, fillCell, closeSpan, closeBack, closeEnd}
 use Rattle.chart_model.proofs.BuildLaws.{foldUp-more}
-use Rattle.chart_model.proofs.FillModel.{Grown, same, grown-length, cell-grown, span-grown, length-grown, all-grown, places-other, bares-other, fold-none, not-so}
+use Rattle.chart_model.proofs.FillModel.{Grown, same, grown-length, cell-grown, span-grown, end-grown, all-grown, places-other, bares-other, fold-none, not-so}
 use Rattle.chart_model.proofs.Absent.{splits-none, candidates-none}
 use Rattle.records.specs.Bits.{bitOf}
 use Rattle.records.specs.Room.{chartIn}
 use Rattle.records.specs.Index.{spanAt}
-use Rattle.chart.specs.Tables.{Sorted, leftIs, OwnSet, CellSet}
-use Rattle.chart.specs.Fill.{WordRule, Classified, SpanSet, Between, Filled, Closed}
+use Rattle.chart.specs.Tables.{FirstAbsent, SecondAbsent, Sorted, Splits, leftIs, OwnSet, CellSet}
+use Rattle.chart.specs.declared.sets.Meeting.{Meeting}
+use Rattle.chart.specs.Fill.{WordRule, SetOf, Classified, bothAt, Met, Meets, SpanSet, NextLeft, Between, Filled, Closed}
 use Rattle.records.proofs.BitLaws.{bitOf-and}
 use Rattle.records.proofs.RoomLaws.{chart-length}
-use Rattle.chart.proofs.CellLaws.{absent-first, absent-second, not-own, and-zero}
+use Rattle.chart.proofs.BitSets.{and-zero, bit-one}
+use Rattle.chart.proofs.CellLaws.{absent-first, absent-second, not-own}
 use Rattle.chart.proofs.FillLaws.{state-some, state-over, bit-zero, first-kept, second-kept}
 use Rattle.chart.proofs.FillCells.{word-true, over-filled}
 
@@ -46,23 +48,15 @@ module _ (words : List ℕ) (n A i p : ℕ) where
   word-none (Spine A′ a before D after) h = refl
 
 -- The records of the span so far are no antecedents in it, so what the sets said of the chart before it still holds.
-module _ (g : List Rule) (n A i j set own : ℕ) (sets words : List ℕ) {P : ℕ → ℕ → ℕ → Type 0} {c b : List Record}
-    (spans : SpanSet g n sets words i j set) (owns : OwnSet g A own) (ij : i < j) (jn : j ≤ n)
-    (sorted : Sorted g n c sets) (grown : Grown P c b)
-    (inside : (B x y : ℕ) → P B x y → (x ≡ i) × (y ≡ j)) where
-  split-none : (k p : ℕ) (r : Rule) → i < k → k < j → getElem? g p ≡ some r → bitOf p (bitAnd own set) ≡ 0
-      → byRule b A i k j p r ≡ []
-  split-none k p r ik kj e apart = elim (and-zero p own set apart) [
-    | inl z ↦ not-own b A i k j p r (owns .has p r e z)
-    | inr z ↦ elim (and-zero p (getD sets (2 * spanAt i k) 0) (getD sets (2 * spanAt k j + 1) 0)
-        (spans .ofSplits (omega arith) p k ik kj z)) [
-          | inl y ↦ absent-first b A i k j p r
-              (first-kept b c i k r (λ B. places-other B i k (λ h. left B h) grown) (λ B. bares-other B i k (λ h. left B h) grown)
-              (sorted .firsts p r i k e ik (omega arith) y))
-          | inr y ↦ absent-second b A i k j p r
-              (second-kept b c k j r (λ B. places-other B k j (λ h. right B h) grown) (λ B. bares-other B k j (λ h. right B h) grown)
-              (sorted .seconds p r k j e kj jn y))
-        ]
+module _ {g : List Rule} {n : ℕ} (i j : ℕ) {sets : List ℕ} {P : ℕ → ℕ → ℕ → Type 0} {c b : List Record} (jn : j ≤ n)
+    (sorted : Sorted g n c sets) (grown : Grown P c b) (inside : (B x y : ℕ) → P B x y → (x ≡ i) × (y ≡ j)) where
+  split-missing : (k p : ℕ) (r : Rule) → i < k → k < j → getElem? g p ≡ some r → bitOf p (bothAt sets i k j) ≡ 0
+      → FirstAbsent b i k r ⊎ SecondAbsent b k j r
+  split-missing k p r ik kj e z = elim (and-zero p (getD sets (2 * spanAt i k) 0) (getD sets (2 * spanAt k j + 1) 0) z) [
+    | inl y ↦ inl (first-kept b c i k r (λ B. places-other B i k (λ h. left B h) grown) (λ B. bares-other B i k (λ h. left B h) grown)
+        (sorted .firsts p r i k e ik (omega arith) y))
+    | inr y ↦ inr (second-kept b c k j r (λ B. places-other B k j (λ h. right B h) grown) (λ B. bares-other B k j (λ h. right B h) grown)
+        (sorted .seconds p r k j e kj jn y))
   ]
     where
       left : (B : ℕ) → P B i k → ⊥
@@ -71,11 +65,37 @@ module _ (g : List Rule) (n A i j set own : ℕ) (sets words : List ℕ) {P : �
       right : (B : ℕ) → P B k j → ⊥
       right B h = omega (arith, inside B k j h)
 
+  met-splits : {both : List ℕ} {splits : ℕ} → Met sets i j both splits → Splits g b i j both splits
+  met-splits {both} {splits} met =
+      record {
+        inside = met .inside;
+        absent = λ p r k e ik kj h. split-missing k p r ik kj e (elim (ℕ-discrete (bitOf k splits) 0) [
+          | yes z ↦ ap (bitOf p) (met .none k ik kj z) ∙ bit-zero p
+          | no d ↦ elim h [
+            | inl z ↦ absurd (d z)
+            | inr z ↦ sym (ap (bitOf p) (met .there k (bit-one k splits d))) ∙ z
+          ]
+        ]);
+      }
+
+module _ (g : List Rule) (n A i j set own : ℕ) (sets words : List ℕ) {P : ℕ → ℕ → ℕ → Type 0} {c b : List Record}
+    (worded : j ≡ i + 1 → SetOf g (WordRule (getD words i 0)) set) (meets : Meets sets i j set) (owns : OwnSet g A own) (ij : i < j) (jn : j ≤ n)
+    (sorted : Sorted g n c sets) (grown : Grown P c b) (inside : (B x y : ℕ) → P B x y → (x ≡ i) × (y ≡ j)) where
+  split-none : (k p : ℕ) (r : Rule) → i < k → k < j → getElem? g p ≡ some r → bitOf p (bitAnd own set) ≡ 0
+      → byRule b A i k j p r ≡ []
+  split-none k p r ik kj e apart = elim (and-zero p own set apart) [
+    | inl z ↦ not-own b A i k j p r (owns .has p r e z)
+    | inr z ↦ elim (split-missing i j jn sorted grown inside k p r ik kj e (meets p k ik kj z)) [
+      | inl y ↦ absent-first b A i k j p r y
+      | inr y ↦ absent-second b A i k j p r y
+    ]
+  ]
+
   word-rule-none : (p : ℕ) (r : Rule) → j ≡ i + 1 → getElem? g p ≡ some r → bitOf p (bitAnd own set) ≡ 0
       → byWord (wordIs (take n words)) A i p r ≡ []
   word-rule-none p r one e apart = elim (and-zero p own set apart) [
     | inl z ↦ other-word words n A i p r (owns .has p r e z)
-    | inr z ↦ word-none words n A i p r (spans .ofWord one p r e z)
+    | inr z ↦ word-none words n A i p r (worded one p r e z)
   ]
 
   rule-none : (p : ℕ) (r : Rule) → getElem? g p ≡ some r → bitOf p (bitAnd own set) ≡ 0
@@ -110,29 +130,42 @@ fold-idle f (suc m) c h = rw (fold-idle f m c (λ l k. h l (omega arith))) (h m 
 
 -- In a span: with an empty set no nonterminal adds anything; one whose set shares no production with the span's adds nothing; and the
 -- cell of the next nonterminal is still without records.
-module _ {g : List Rule} {n N count : ℕ} {chart marks index covers sets by words : List ℕ} {i j set : ℕ} (room : ℕ)
-    (b : Between g n N room chart marks index covers sets count) (classes : Classified g by) (spans : SpanSet g n sets words i j set)
-    (ij : i < j) (jn : j ≤ n) where
-  pub idle-span : set ≡ 0
+module _ {g : List Rule} {n N count : ℕ} {chart marks index covers sets by words both : List ℕ} {i j : ℕ} {r : Meeting} (room : ℕ)
+    (b : Between g n N room chart marks index covers sets count) (classes : Classified g by)
+    (spans : SpanSet by sets words i j both r) (ij : i < j) (jn : j ≤ n) where
+  worded : j ≡ i + 1 → SetOf g (WordRule (getD words i 0)) (r .productions)
+  worded one = rw (spans .ofWord one) (classes .words (getD words i 0))
+
+  pub idle-span : r .productions ≡ 0
       → foldUp (fillCell room g (wordIs (take n words)) (j - i) i) N (some (chartIn chart count)) ≡ some (chartIn chart count)
   idle-span z =
       fold-idle (fillCell room g (wordIs (take n words)) (j - i) i) N (chartIn chart count)
-      (λ A l. idle-cell g n A i j set (getD by A 0) sets words {P = λ _ _ _. ⊥} spans
+      (λ A l. idle-cell g n A i j (r .productions) (getD by A 0) sets words {P = λ _ _ _. ⊥} worded (spans .ofSplits)
       (classes .own A (omega (arith, b .symbolsFit))) ij jn (b .sorted) same (λ B x y h. absurd h) room
-      (λ p. omega (arith, bitOf-and p (getD by A 0) set, ap (bitOf p) z ∙ bit-zero p)))
+      (λ p. omega (arith, bitOf-and p (getD by A 0) (r .productions), ap (bitOf p) z ∙ bit-zero p)))
 
-  module _ {c : List Record} (A : ℕ) (l : A < N)
-      (q : foldUp (fillCell room g (wordIs (take n words)) (j - i) i) A (some (chartIn chart count)) ≡ some c) where
-    pub idle-turn : bitAnd (getD by A 0) set ≡ 0 → fillCell room g (wordIs (take n words)) (j - i) i A (some c) ≡ some c
+  -- Once the nonterminals below m are through.
+  module _ {c : List Record} (m : ℕ)
+      (q : foldUp (fillCell room g (wordIs (take n words)) (j - i) i) m (some (chartIn chart count)) ≡ some c) (A : ℕ) (l : A < N) where
+    pub idle-turn : bitAnd (getD by A 0) (r .productions) ≡ 0 → fillCell room g (wordIs (take n words)) (j - i) i A (some c) ≡ some c
     idle-turn z =
-        idle-cell g n A i j set (getD by A 0) sets words spans (classes .own A (omega (arith, b .symbolsFit))) ij jn (b .sorted)
-        (span-grown room g (wordIs (take n words)) (j - i) i A q) (λ B x y (u, v, w). (v, omega arith)) room
+        idle-cell g n A i j (r .productions) (getD by A 0) sets words worded (spans .ofSplits)
+        (classes .own A (omega (arith, b .symbolsFit))) ij jn (b .sorted)
+        (span-grown room g (wordIs (take n words)) (j - i) i m q) (λ B x y (u, v, w). (v, omega arith)) room
         (λ p. ap (bitOf p) z ∙ bit-zero p)
 
-    pub turn-set : CellSet g (wordIs (take n words)) c A i (j - i) (bitAnd (getD by A 0) set)
+    pub turn-set : CellSet g (wordIs (take n words)) c A i (j - i) (bitAnd (getD by A 0) (r .productions))
     turn-set =
-        cell-set g n A i j set (getD by A 0) sets words spans (classes .own A (omega (arith, b .symbolsFit))) ij jn (b .sorted)
-        (span-grown room g (wordIs (take n words)) (j - i) i A q) (λ B x y (u, v, w). (v, omega arith))
+        cell-set g n A i j (r .productions) (getD by A 0) sets words worded (spans .ofSplits)
+        (classes .own A (omega (arith, b .symbolsFit))) ij jn (b .sorted)
+        (span-grown room g (wordIs (take n words)) (j - i) i m q) (λ B x y (u, v, w). (v, omega arith))
+
+-- What meets at the splits, in terms of the chart once the nonterminals below m are through.
+pub turn-splits : {g : List Rule} {n N count splits : ℕ} {chart marks index covers sets both : List ℕ} {i j : ℕ} {c : List Record}
+    (room : ℕ) (at : ℕ → ℕ → Bool) → Between g n N room chart marks index covers sets count → Met sets i j both splits → i < j → j ≤ n → (m : ℕ)
+    → foldUp (fillCell room g at (j - i) i) m (some (chartIn chart count)) ≡ some c → Splits g c i j both splits
+turn-splits {g} {i = i} {j} room at b met ij jn m q =
+    met-splits i j jn (b .sorted) (span-grown room g at (j - i) i m q) (λ B x y (u, v, w). (v, omega arith)) met
 
 pub fresh-turn : {b : List Record} (c : List Record) (room : ℕ) (g : List Rule) (at : ℕ → ℕ → Bool) (i j A : ℕ) → places c A i j ≡ []
     → foldUp (fillCell room g at (j - i) i) A (some c) ≡ some b → places b A i j ≡ []
@@ -166,18 +199,11 @@ module _ (room : ℕ) (g : List Rule) (at : ℕ → ℕ → Bool) where
   pub cell-grows : (len i : ℕ) → Grows (fillCell room g at len i)
   cell-grows len i m c b q = grown-length (cell-grown room g at len i m q)
 
-  pub span-grows : (N len : ℕ) → Grows (closeSpan room g at N len)
-  span-grows N len m c b q = grown-length (span-grown room g at len m N q)
+  pub span-grows : (N e : ℕ) → Grows (closeBack room g at N e)
+  span-grows N e m c b q = grown-length (span-grown room g at (suc m) (e - m) N q)
 
-  pub length-grows : (N n : ℕ) → Grows (closeLength room g at N n)
-  length-grows N n m c b q = grown-length (length-grown room g at N (suc m) (n - m) q)
-
-  -- And none stays none.
-  pub span-stays : (N len i : ℕ) → closeSpan room g at N len i none ≡ none
-  span-stays N len i = fold-none (fillCell room g at len i) none 0 N (λ l. refl) refl zero-le
-
-  pub length-stays : (N n len : ℕ) → closeLength room g at N n len none ≡ none
-  length-stays N n len = fold-none (closeSpan room g at N (suc len)) none 0 (n - len) (span-stays N (suc len)) refl zero-le
+  pub end-grows : (N : ℕ) → Grows (closeEnd room g at N)
+  end-grows N e c b q = grown-length (end-grown room g at N e (suc e) (le-refl (suc e)) q)
 
 module _ {g : List Rule} {n N room count now : ℕ} {Other : ℕ → ℕ → ℕ → Type 0} {old mid marks index covers sets : List ℕ}
     (f : ℕ → Option (List Record) → Option (List Record)) (m : ℕ) (s : Option (List Record))
@@ -223,6 +249,36 @@ module _ {g : List Rule} {n N room count now : ℕ} {Other : ℕ → ℕ → ℕ
       state : foldUp f m s ≡ some (chartIn mid now)
       state = state-some room now mid (sofar .model) fits
 
+-- Turns that change nothing, up to k.
+fold-pass : {g : List Rule} {n N room count now : ℕ} {Other : ℕ → ℕ → ℕ → Type 0} {old mid marks index covers sets : List ℕ}
+    (f : ℕ → Option (List Record) → Option (List Record)) (m k : ℕ) (s : Option (List Record)) → m ≤ k
+    → Filled g n N room Other (foldUp f m s) old count mid marks index covers sets now → now ≤ room
+    → ((l : ℕ) → m ≤ l → l < k → f l (some (chartIn mid now)) ≡ some (chartIn mid now))
+    → Filled g n N room Other (foldUp f k s) old count mid marks index covers sets now
+fold-pass {g} {n} {N} {room} {count} {now} {Other} {old} {mid} {marks} {index} {covers} {sets} f m k s h sofar fits idle =
+    let e : m + (k - m) ≡ k = omega arith in
+    subst (λ (x : ℕ). Filled g n N room Other (foldUp f x s) old count mid marks index covers sets now) e (go (k - m) (omega arith))
+  where
+    go : (d : ℕ) → m + d ≤ k → Filled g n N room Other (foldUp f (m + d) s) old count mid marks index covers sets now
+    go zero l = rw add-zero sofar
+    go (suc d) l =
+        let e : m + d + 1 ≡ m + suc d = omega arith in
+        subst (λ (x : ℕ). Filled g n N room Other (foldUp f x s) old count mid marks index covers sets now) e
+        (fold-skip f (m + d) s (go d (omega arith)) fits (idle (m + d) (omega arith) (omega arith)))
+
+-- In a span: the nonterminals up to the next that has a production in its set.
+pub span-pass : {g : List Rule} {n N count now : ℕ} {Other : ℕ → ℕ → ℕ → Type 0}
+    {chart marks index covers sets by words both mid marks′ index′ covers′ sets′ : List ℕ} {i j : ℕ} {r : Meeting} (room : ℕ)
+    → Between g n N room chart marks index covers sets count → Classified g by → SpanSet by sets words i j both r → i < j → j ≤ n
+    → (m A : ℕ) → NextLeft by (r .productions) m N A → now ≤ room
+    → let f = fillCell room g (wordIs (take n words)) (j - i) i in
+    Filled g n N room Other (foldUp f m (some (chartIn chart count))) chart count mid marks′ index′ covers′ sets′ now
+    → Filled g n N room Other (foldUp f A (some (chartIn chart count))) chart count mid marks′ index′ covers′ sets′ now
+span-pass {g} {n} {words = words} {mid = mid} {i = i} {j} room b classes spans ij jn m A next fits sofar =
+    fold-pass (fillCell room g (wordIs (take n words)) (j - i) i) m A _ (next .later) sofar fits
+    (λ l u v. idle-turn room b classes spans ij jn m (state-some room _ mid (sofar .model) fits) l (omega (arith, next .within))
+    (next .passed l u v))
+
 -- An item did not fit in some turn: so none does at the end.
 pub fold-over : {g : List Rule} {n N room count after : ℕ} {Other : ℕ → ℕ → ℕ → Type 0}
     {old new marks index covers sets : List ℕ} (f : ℕ → Option (List Record) → Option (List Record)) (m k : ℕ) (s : Option (List Record))
@@ -239,37 +295,26 @@ pub fold-at : {g : List Rule} {n N room count after : ℕ} {Other : ℕ → ℕ 
     → Filled g n N room Other (foldUp f k s) old count new marks index covers sets after
 fold-at f m k s e h = rw e at h
 
--- Where branches have met, what they left is known by equations.
-pub filled-eq : {g : List Rule} {n N room count after after′ : ℕ} {Other : ℕ → ℕ → ℕ → Type 0} {s : Option (List Record)}
-    {old new marks index covers sets new′ marks′ index′ covers′ sets′ : List ℕ} → new′ ≡ new → marks′ ≡ marks → index′ ≡ index
-    → covers′ ≡ covers → sets′ ≡ sets
-    → after′ ≡ after → Filled g n N room Other s old count new marks index covers sets after
-    → Filled g n N room Other s old count new′ marks′ index′ covers′ sets′ after′
-filled-eq p q r v t u h = rw (p, q, r, v, t, u) h
+-- The next span of an end, and the spans of the next end, are still without records.
+pub fresh-span : {b : List Record} (c : List Record) (room : ℕ) (g : List Rule) (at : ℕ → ℕ → Bool) (N e m A : ℕ) → m ≤ e
+    → ((A i : ℕ) → places c A i (e + 1) ≡ []) → foldUp (closeBack room g at N e) m (some c) ≡ some b → places b A (e - m) (e + 1) ≡ []
+fresh-span c room g at N e m A h fresh q =
+    places-other A (e - m) (e + 1) (λ (u, v). omega arith) (end-grown room g at N e m (omega arith) q) ∙ fresh A (e - m)
 
--- The next span of a length, and the spans of the next length, are still without records.
-pub fresh-span : {b : List Record} (c : List Record) (room : ℕ) (g : List Rule) (at : ℕ → ℕ → Bool) (N len i A : ℕ)
-    → ((A i : ℕ) → places c A i (i + (len + 1)) ≡ []) → foldUp (closeSpan room g at N (suc len)) i (some c) ≡ some b
-    → places b A i (i + len + 1) ≡ []
-fresh-span {b} c room g at N len i A fresh q =
-    let e : i + (len + 1) ≡ i + len + 1 = omega arith in
-    subst (λ (j : ℕ). places b A i j ≡ []) e
-    (places-other A i (i + (len + 1)) (λ (u, v). omega arith) (length-grown room g at N (suc len) i q) ∙ fresh A i)
+pub fresh-end : {b : List Record} (room : ℕ) (g : List Rule) (at : ℕ → ℕ → Bool) (N e A i : ℕ)
+    → foldUp (closeEnd room g at N) e (some []) ≡ some b → places b A i (e + 1) ≡ []
+fresh-end room g at N e A i q = places-other A i (e + 1) (λ h. omega arith) (all-grown room g at N e q)
 
-pub fresh-length : {b : List Record} (room : ℕ) (g : List Rule) (at : ℕ → ℕ → Bool) (N n len A i : ℕ)
-    → foldUp (closeLength room g at N n) len (some []) ≡ some b → places b A i (i + (len + 1)) ≡ []
-fresh-length room g at N n len A i q = places-other A i (i + (len + 1)) (λ h. omega arith) (all-grown room g at N n len q)
-
--- The turn for the span from i of a length, in the model's terms.
+-- The turn for the span of m + 1 words, in the model's terms.
 pub span-turn : {g : List Rule} {n N room now after : ℕ} {Other : ℕ → ℕ → ℕ → Type 0} {mid new marks index covers sets : List ℕ}
-    (at : ℕ → ℕ → Bool) (len i : ℕ)
-    → Filled g n N room Other (closeSpan room g at N (i + len + 1 - i) i (some (chartIn mid now))) mid now new marks index covers sets after
-    → Filled g n N room Other (closeSpan room g at N (suc len) i (some (chartIn mid now))) mid now new marks index covers sets after
-span-turn {g} {n} {N} {room} {now} {after} {Other} {mid} {new} {marks} {index} {covers} {sets} at len i h =
-    let e : i + len + 1 - i ≡ suc len = omega arith in
-    subst (λ (k : ℕ). Filled g n N room Other (closeSpan room g at N k i (some (chartIn mid now))) mid now new marks index covers sets after) e h
+    (at : ℕ → ℕ → Bool) (e m : ℕ) → m ≤ e
+    → Filled g n N room Other (closeSpan room g at N (e + 1 - (e - m)) (e - m) (some (chartIn mid now))) mid now new marks index covers sets after
+    → Filled g n N room Other (closeBack room g at N e m (some (chartIn mid now))) mid now new marks index covers sets after
+span-turn {g} {n} {N} {room} {now} {after} {Other} {mid} {new} {marks} {index} {covers} {sets} at e m l h =
+    let q : e + 1 - (e - m) ≡ suc m = omega arith in
+    subst (λ (k : ℕ). Filled g n N room Other (closeSpan room g at N k (e - m) (some (chartIn mid now))) mid now new marks index covers sets after) q h
 
--- All lengths are closed.
+-- All ends are closed.
 module _ {g : List Rule} {n N room count after : ℕ} {Other : ℕ → ℕ → ℕ → Type 0} {s : Option (List Record)}
     {old new marks index covers sets : List ℕ} (filled : Filled g n N room Other s old count new marks index covers sets after) where
   past : s ≡ none → Dec (after ≤ room) → room < after

@@ -1,6 +1,8 @@
+pub mod BitSets
 pub mod CellLaws
 pub mod FinishLaws
 pub mod SetLaws
+pub mod RowLaws
 pub mod FillLaws
 pub mod FillCells
 pub mod FillSpans

@@ -1,46 +1,39 @@
 -- Sets of productions as bits. `|` only adds bits, so no set loses a production; hence what the sets say of the rules so far holds
 -- of one rule more as soon as that production's own bit is in the sets that its rule asks for.
-use Prim.Native.Nat.{ℕ, zero, suc, _+_, _*_, _/_, _%_, _^_, _≤_, _<_}
+use Prim.Native.Nat.{ℕ, zero, suc, _+_, _%_, _^_, _≤_, _<_}
 use native.Mathlib.Numerals.{add-one}
 use native.Mathlib.Omega.{arith}
 use native.Mathlib.Decide.{ℕ-discrete}
-use mathlib.Core.Path.{_≡_, refl, sym, ap, ap₂, subst, _∙_}
+use mathlib.Core.Path.{_≡_, refl, sym, ap, subst, _∙_}
 use mathlib.Core.Logic.{_⊎_, inl, inr}
-use mathlib.Core.Bool.{false}
 use mathlib.Core.List.{List, [], _∷_}
 use mathlib.Core.Option.{some}
-use lib.Bits.{bitAnd, bitOr}
-use lib.Dec.{eqb, lit<}
+use lib.Bits.{bitOr}
 use lib.ListN.{length, getD, getElem?, set, replicate, length-set, length-take}
 use lib.Seq.{getD-set-same, getD-set-other}
-use borrow.Author.Tests.{ne-eqb}
 use Rattle.grammar.specs.Rewriting.{Rule, Lexical, Spine, Action}
 use Rattle.grammar.proofs.StandsLaws.{none-some, some-same}
-use Rattle.layout.specs.Card.{ruleOf}
 use Rattle.card.specs.Productions.{actionFrom, ruleFrom}
 use Rattle.card.specs.declared.Action as declared
 use Rattle.card.specs.declared.Production.{Production}
 use Rattle.card.specs.declared.Production.the-variants.{Word, SideFirst, SideLast}
 use Rattle.records.specs.Bits.{bitOf}
-use Rattle.records.specs.Index.{spanAt}
 use Rattle.steps.specs.Fits.{RuleFits}
 use Rattle.chart.specs.Tables.{leftIs, packedRule, rulesFrom, grammarIn, RulesFit}
-use Rattle.chart.specs.Fill.{FirstSide, FirstDependent, SecondSide, SecondDependent, SetOf, Classified, withBit, Joined, WordRule, Noted}
-use Rattle.records.proofs.BitLaws.{bitOf-or, bitOf-zero, bitOf-power, bitOf-other, one-shifted}
+use Rattle.chart.specs.Fill.{FirstSide, FirstDependent, SecondSide, SecondDependent, SetOf, Classified, withBit, Joined, WordRule}
+use Rattle.records.proofs.BitLaws.{bitOf-or, bitOf-zero, bitOf-power, bitOf-other}
+use Rattle.chart.proofs.BitSets.{or-bits}
 use Rattle.chart.proofs.CellLaws.{rule-there}
 
 -- Bits go into the set at a place: no set loses a bit, and that set has those.
 abbrev pub orInto : List ℕ → ℕ → ℕ → List ℕ
 orInto old at x = set old at (bitOr (getD old at 0) x)
 
-or-bits : (q x y : ℕ) → bitOf q (bitOr x y) ≡ 0 → (bitOf q x ≡ 0) × (bitOf q y ≡ 0)
-or-bits q x y z = (omega (arith, bitOf-or q x y), omega (arith, bitOf-or q x y))
-
 module _ (old : List ℕ) (at x : ℕ) (inside : at < length old) where
-  into-there : (q : ℕ) → bitOf q (getD (orInto old at x) at 0) ≡ 0 → (bitOf q (getD old at 0) ≡ 0) × (bitOf q x ≡ 0)
+  pub into-there : (q : ℕ) → bitOf q (getD (orInto old at x) at 0) ≡ 0 → (bitOf q (getD old at 0) ≡ 0) × (bitOf q x ≡ 0)
   into-there q z = or-bits q (getD old at 0) x (sym (ap (bitOf q) (getD-set-same old at _ 0 inside)) ∙ z)
 
-  into-kept : (s q : ℕ) → bitOf q (getD (orInto old at x) s 0) ≡ 0 → bitOf q (getD old s 0) ≡ 0
+  pub into-kept : (s q : ℕ) → bitOf q (getD (orInto old at x) s 0) ≡ 0 → bitOf q (getD old s 0) ≡ 0
   into-kept s q z = elim (ℕ-discrete s at) [
     | yes e ↦
         subst (λ (k : ℕ). bitOf q (getD old k 0) ≡ 0) (sym e)
@@ -52,14 +45,14 @@ module _ (old : List ℕ) (at x : ℕ) (inside : at < length old) where
 power-there : (p : ℕ) → bitOf p (2 ^ p) ≡ 0 → ⊥
 power-there p z = omega (arith, bitOf-power p)
 
-abbrev Has : ℕ → List ℕ → ℕ → Type 0
+abbrev pub Has : ℕ → List ℕ → ℕ → Type 0
 Has p by s = bitOf p (getD by s 0) ≡ 0 → ⊥
 
-with-there : (by : List ℕ) (at p : ℕ) → at < length by → Has p (withBit by at p) at
+pub with-there : (by : List ℕ) (at p : ℕ) → at < length by → Has p (withBit by at p) at
 with-there by at p h z = power-there p (into-there by at (2 ^ p) h p z .1)
 
 -- And no other bit.
-with-others : (by : List ℕ) (at p : ℕ) → at < length by → (s q : ℕ) → (q ≡ p → ⊥) → bitOf q (getD by s 0) ≡ 0
+pub with-others : (by : List ℕ) (at p : ℕ) → at < length by → (s q : ℕ) → (q ≡ p → ⊥) → bitOf q (getD by s 0) ≡ 0
     → bitOf q (getD (withBit by at p) s 0) ≡ 0
 with-others by at p h s q d z = elim (ℕ-discrete s at) [
   | yes e ↦
@@ -79,7 +72,7 @@ record Three (old : List ℕ) (p s t u : ℕ) (new : List ℕ) : Type 0 where
   second : Has p new t
   third : Has p new u
 
-three : (old : List ℕ) (p s t u : ℕ) → length old ≡ 80 → s < 80 → t < 80 → u < 80
+three : (old : List ℕ) (p s t u : ℕ) → length old ≡ 112 → s < 112 → t < 112 → u < 112
     → Three old p s t u (withBit (withBit (withBit old s p) t p) u p)
 three old p s t u long a b c =
     let one = withBit old s p in
@@ -97,19 +90,23 @@ three old p s t u long a b c =
     }
 
 -- The three kinds of rules.
-module _ (old : List ℕ) (p A : ℕ) (long : length old ≡ 80) (fits : A < 16) where
-  joined-word : (w : ℕ) → Joined (Lexical A w) p old (withBit old A p)
+module _ (old : List ℕ) (p A : ℕ) (long : length old ≡ 112) (fits : A < 16) where
+  joined-word : (w : ℕ) → Joined (Lexical A w) p old (withBit (withBit old A p) (80 + w % 32) p)
   joined-word w =
+      let one = withBit old A p in
+      let new = withBit one (80 + w % 32) p in
       let h : A < length old = omega arith in
+      let k : 80 + w % 32 < length one = simp length-set (omega arith) in
       record {
-        sameLength = length-set old A _;
-        kept = into-kept old A (2 ^ p) h;
-        others = with-others old A p h;
-        own = λ k e. subst (Has p (withBit old A p)) e (with-there old A p h);
-        firstSide = λ k e z. e;
-        firstDependent = λ k e z. e;
-        secondSide = λ k e z. e;
-        secondDependent = λ k e z. e;
+        sameLength = simp length-set;
+        kept = λ x q z. into-kept old A (2 ^ p) h x q (into-kept one (80 + w % 32) (2 ^ p) k x q z);
+        others = λ x q d z. with-others one (80 + w % 32) p k x q d (with-others old A p h x q d z);
+        own = λ x e. subst (Has p new) e (λ z. with-there old A p h (into-kept one (80 + w % 32) (2 ^ p) k A p z));
+        firstSide = λ x e z. e;
+        firstDependent = λ x e z. e;
+        secondSide = λ x e z. e;
+        secondDependent = λ x e z. e;
+        word = λ x e. subst (λ (y : ℕ). Has p new (80 + y % 32)) (sym e) (with-there one (80 + w % 32) p k);
       }
 
   module _ (a : Action) (D B : ℕ) (d : D < 16) (b : B < 16) where
@@ -126,6 +123,7 @@ module _ (old : List ℕ) (p A : ℕ) (long : length old ≡ 80) (fits : A < 16)
           firstDependent = λ k e z. e;
           secondSide = λ k e z. e;
           secondDependent = λ k e. subst (λ (x : ℕ). Has p new (64 + x)) e (t .third);
+          word = λ w e z. e;
         }
 
     joined-last : Joined (Spine A a [] D (B ∷ [])) p old (withBit (withBit (withBit old A p) (32 + D) p) (48 + B) p)
@@ -141,6 +139,7 @@ module _ (old : List ℕ) (p A : ℕ) (long : length old ≡ 80) (fits : A < 16)
           firstDependent = λ k e. subst (λ (x : ℕ). Has p new (32 + x)) e (t .second);
           secondSide = λ k e. subst (λ (x : ℕ). Has p new (48 + x)) e (t .third);
           secondDependent = λ k e z. e;
+          word = λ w e z. e;
         }
 
 -- The same of the productions as the code has them.
@@ -155,10 +154,11 @@ pub last-fits : {r : Production} {A B D : ℕ} {a : declared.Action} → r ≡ S
     → (A < 16) × (D < 16) × (B < 16)
 last-fits e f = let (a, b, c, d, g) = subst (λ (x : Production). RuleFits 16 (ruleFrom x)) e f in (a, d, g .0)
 
-module _ {r : Production} (p : ℕ) {old : List ℕ} (f : RuleFits 16 (ruleFrom r)) (long : length old ≡ 80) {new : List ℕ} {x A : ℕ}
+module _ {r : Production} (p : ℕ) {old : List ℕ} (f : RuleFits 16 (ruleFrom r)) (long : length old ≡ 112) {new : List ℕ} {x A : ℕ}
   where
-    pub word-joined : {w : ℕ} → r ≡ Word A w → x ≡ A → new ≡ withBit old x p → Joined (ruleFrom r) p old new
-    word-joined {w} e h n = rw (e, n, h) (joined-word old p A long (word-fits e f) w)
+    pub word-joined : {one : List ℕ} {y w : ℕ} → r ≡ Word A w → x ≡ A → y ≡ w → one ≡ withBit old x p
+        → new ≡ withBit one (80 + y % 32) p → Joined (ruleFrom r) p old new
+    word-joined {w = w} e h i l n = rw (e, n, l, h, i) (joined-word old p A long (word-fits e f) w)
 
     pub first-joined : {one two : List ℕ} {y z B D : ℕ} {a : declared.Action} → r ≡ SideFirst A a B D → x ≡ A → y ≡ B
         → z ≡ D → one ≡ withBit old x p → two ≡ withBit one (16 + y) p → new ≡ withBit two (64 + z) p → Joined (ruleFrom r) p old new
@@ -196,7 +196,7 @@ zero-at (suc n) zero = refl
 zero-at (suc n) (suc s) = zero-at n s
 
 -- A set for one rule more.
-pub setOf-none : (test : Rule → Type 0) (set : ℕ) → SetOf [] test set
+setOf-none : (test : Rule → Type 0) (set : ℕ) → SetOf [] test set
 setOf-none test set p r e = absurd (none-some e)
 
 setOf-more : (rules : List ℕ) (p : ℕ) (test : Rule → Type 0) (old new : ℕ)
@@ -216,6 +216,7 @@ classified-none by zeros =
       firstDependents = λ A h. setOf-none (FirstDependent A) _;
       secondSides = λ A h. setOf-none (SecondSide A) _;
       secondDependents = λ A h. setOf-none (SecondDependent A) _;
+      words = λ w. setOf-none (WordRule w) _;
     }
 
 pub classified-more : (rules : List ℕ) (p : ℕ) {old new : List ℕ} → p < length rules
@@ -231,6 +232,7 @@ classified-more rules p {old} {new} there c j =
       firstDependents = λ A h. more (FirstDependent A) (32 + A) (c .firstDependents A h) (j .firstDependent A);
       secondSides = λ A h. more (SecondSide A) (48 + A) (c .secondSides A h) (j .secondSide A);
       secondDependents = λ A h. more (SecondDependent A) (64 + A) (c .secondDependents A h) (j .secondDependent A);
+      words = λ w. more (WordRule w) (80 + w % 32) (c .words w) (j .word w);
     }
   where
     last : (q : ℕ) → length (grammarIn rules (p + 1)) ≤ q → q ≡ p → ⊥
@@ -242,111 +244,3 @@ classified-more rules p {old} {new} there c j =
     more : (test : Rule → Type 0) (s : ℕ) → SetOf (grammarIn rules p) test (getD old s 0)
         → (test (packedRule (getD rules p 0)) → Has p new s) → SetOf (grammarIn rules (p + 1)) test (getD new s 0)
     more test s so = setOf-more rules p test (getD old s 0) (getD new s 0) so (j .kept s)
-
--- The word productions: a rule more whose word is w, or is not.
-module _ (rules : List ℕ) (p w : ℕ) {old new : ℕ} (so : SetOf (grammarIn rules p) (WordRule w) old) where
-  pub word-taken : p < 64 → new ≡ bitOr old ((1 * 2 ^ p) % 2 ^ 64) → SetOf (grammarIn rules (p + 1)) (WordRule w) new
-  word-taken h e = setOf-more rules p (WordRule w) old new so (λ q z. bits q z .0) (λ t z. power-there p (bits p z .1))
-    where
-      bits : (q : ℕ) → bitOf q new ≡ 0 → (bitOf q old ≡ 0) × (bitOf q (2 ^ p) ≡ 0)
-      bits q z = or-bits q old (2 ^ p) (sym (ap (bitOf q) (e ∙ ap (bitOr old) (one-shifted p 64 h))) ∙ z)
-
-  pub word-left : (WordRule w (packedRule (getD rules p 0)) → ⊥) → new ≡ old → SetOf (grammarIn rules (p + 1)) (WordRule w) new
-  word-left other e = setOf-more rules p (WordRule w) old new so (λ q z. sym (ap (bitOf q) e) ∙ z) (λ t z. other t)
-
--- A rule of another kind than 0, and one for another word.
-paired : (w kind A B C g : ℕ) → (kind ≡ 0 → ⊥) → WordRule w (ruleOf kind A B C g) → ⊥
-paired w zero A B C g d t = d refl
-paired w (suc zero) A B C g d t = t
-paired w (suc (suc zero)) A B C g d t = t
-paired w (suc (suc (suc zero))) A B C g d t = t
-paired w (suc (suc (suc (suc zero)))) A B C g d t = t
-paired w (suc (suc (suc (suc (suc zero))))) A B C g d t = t
-paired w (suc (suc (suc (suc (suc (suc kind)))))) A B C g d t =
-    let k = suc (suc (suc (suc (suc (suc kind))))) in
-    let other : (m : ℕ) → m < 6 → eqb k m ≡ false = λ m h. ne-eqb k m (omega arith) in
-    rw (other 0 (lit< tt), other 1 (lit< tt), other 2 (lit< tt), other 3 (lit< tt), other 4 (lit< tt), other 5 (lit< tt)) at t
-
-pub other-kind : (w rule : ℕ) → (rule % 256 ≡ 0 → ⊥) → WordRule w (packedRule rule) → ⊥
-other-kind w rule d t =
-    paired w (rule % 256) (rule / 256 % 256) (rule / 65536 % 256) (rule / 16777216 % 256) (rule / 4294967296 % 256) d t
-
-ofWord : (w kind A B C g : ℕ) → kind ≡ 0 → WordRule w (ruleOf kind A B C g) → w ≡ B
-ofWord w kind A B C g e t = subst (λ (k : ℕ). WordRule w (ruleOf k A B C g)) e t
-
-pub other-word : (w word rule : ℕ) → word ≡ w → (rule / 65536 % 256 ≡ word → ⊥) → WordRule w (packedRule rule) → ⊥
-other-word w word rule e d t = elim (ℕ-discrete (rule % 256) 0) [
-  | yes z ↦ d (sym (ofWord w (rule % 256) (rule / 256 % 256) (rule / 65536 % 256) (rule / 16777216 % 256) (rule / 4294967296 % 256) z t) ∙ sym e)
-  | no n ↦ other-kind w rule n t
-]
-
--- The splits of i to j below `to` that were looked at.
-abbrev pub MeetsTo : ℕ → List ℕ → ℕ → ℕ → ℕ → ℕ → Type 0
-MeetsTo n sets i j to set = (p k : ℕ) → i < k → k < to → bitOf p set ≡ 0
-    → bitOf p (bitAnd (getD sets (2 * spanAt i k) 0) (getD sets (2 * spanAt k j + 1) 0)) ≡ 0
-
-pub meets-none : (n : ℕ) (sets : List ℕ) (i j set : ℕ) → MeetsTo n sets i j (i + 1) set
-meets-none n sets i j set p k a b = absurd (omega arith)
-
-pub meets-more : (n : ℕ) (sets : List ℕ) (i j to set first second : ℕ) → MeetsTo n sets i j to set → first ≡ spanAt i to
-    → second ≡ spanAt to j
-    → MeetsTo n sets i j (to + 1) (bitOr set (bitAnd (getD sets (2 * first) 0) (getD sets (2 * second + 1) 0)))
-meets-more n sets i j to set first second m f s p k a b z = elim (ℕ-discrete k to) [
-  | yes e ↦
-      let x : first ≡ spanAt i k = f ∙ ap (spanAt i) (sym e) in
-      let y : second ≡ spanAt k j = s ∙ ap (λ (l : ℕ). spanAt l j) (sym e) in
-      rw (← x, ← y) (or-bits p set both z .1)
-  | no d ↦ m p k a (omega arith) (or-bits p set both z .0)
-]
-  where
-    both : ℕ
-    both = bitAnd (getD sets (2 * first) 0) (getD sets (2 * second + 1) 0)
-
--- A cell's two sets, of A and, where it has a bare item, of that.
-abbrev Covers : List ℕ → ℕ → ℕ → ℕ → ℕ → Type 0
-Covers by always bared bare set = (p : ℕ) → bitOf p set ≡ 0
-    → (bitOf p (getD by always 0) ≡ 0) × ((bare ≡ 0 → ⊥) → bitOf p (getD by bared 0) ≡ 0)
-
-abbrev pub CellSets : List ℕ → ℕ → ℕ → ℕ → ℕ → Type 0
-CellSets by A bare first second = Covers by (32 + A) (16 + A) bare first × Covers by (64 + A) (48 + A) bare second
-
-pub sets-plain : (by : List ℕ) (A bare : ℕ) {first second : ℕ} → bare ≡ 0 → first ≡ getD by (32 + A) 0 → second ≡ getD by (64 + A) 0
-    → CellSets by A bare first second
-sets-plain by A bare z e d =
-    (λ p h. (sym (ap (bitOf p) e) ∙ h, λ b. absurd (b z)), λ p h. (sym (ap (bitOf p) d) ∙ h, λ b. absurd (b z)))
-
-pub sets-bare : (by : List ℕ) (A bare : ℕ) {first second : ℕ} → first ≡ bitOr (getD by (32 + A) 0) (getD by (16 + A) 0)
-    → second ≡ bitOr (getD by (64 + A) 0) (getD by (48 + A) 0) → CellSets by A bare first second
-sets-bare by A bare e d = (both (32 + A) (16 + A) e, both (64 + A) (48 + A) d)
-  where
-    both : (x y : ℕ) {set : ℕ} → set ≡ bitOr (getD by x 0) (getD by y 0) → Covers by x y bare set
-    both x y e p h = let (u, v) = or-bits p (getD by x 0) (getD by y 0) (sym (ap (bitOf p) e) ∙ h) in (u, λ b. v)
-
--- They go into the sets of the span, one after the other.
-noted-there : (n : ℕ) (by : List ℕ) (A i j bare : ℕ) (old : List ℕ) (first second : ℕ) → 2 * spanAt i j + 1 < length old
-    → CellSets by A bare first second
-    → Noted n by A i j bare old (orInto (orInto old (2 * spanAt i j) first) (2 * spanAt i j + 1) second)
-noted-there n by A i j bare old first second h (f, g) =
-    let at = 2 * spanAt i j in
-    let half = orInto old at first in
-    let x : at < length old = omega arith in
-    let y : at + 1 < length half = simp length-set h in
-    record {
-      sameLength = simp length-set;
-      elsewhere = λ s a b. getD-set-other half (at + 1) s _ 0 b ∙ getD-set-other old at s _ 0 a;
-      firsts = λ p z.
-          let (u, v) = into-there old at first x p (into-kept half (at + 1) second y at p z) in
-          let (k, l) = f p v in (u, k, l);
-      seconds = λ p z.
-          let (u, v) = into-there half (at + 1) second y p z in
-          let (k, l) = g p v in (into-kept old at first x (at + 1) p u, k, l);
-    }
-
-pub noted : (n : ℕ) (by : List ℕ) (A i j bare : ℕ) (old : List ℕ) (at first second : ℕ) {a k l : ℕ} → a ≡ A → k ≡ i → l ≡ j
-    → at ≡ spanAt k l → 2 * at + 1 < length old → CellSets by a bare first second
-    → Noted n by A i j bare old (orInto (orInto old (2 * at) first) (2 * at + 1) second)
-noted n by A i j bare old at first second x y z e h c =
-    let place : at ≡ spanAt i j = e ∙ ap₂ spanAt y z in
-    subst (λ (s : ℕ). Noted n by A i j bare old (orInto (orInto old (2 * s) first) (2 * s + 1) second)) (sym place)
-    (noted-there n by A i j bare old first second (subst (λ (s : ℕ). 2 * s + 1 < length old) place h)
-    (subst (λ (b : ℕ). CellSets by b bare first second) x c))

@@ -1,5 +1,5 @@
 -- What holds between two cells, and what filling cells promises.
-use Prim.Native.Nat.{ℕ, zero, suc, _+_, _*_, _-_, _^_, _≤_, _<_}
+use Prim.Native.Nat.{ℕ, zero, suc, _+_, _*_, _-_, _%_, _^_, _≤_, _<_}
 use mathlib.Core.Path.{_≡_}
 use mathlib.Core.Bool.{Bool, true, false}
 use mathlib.Core.List.{List, [], _∷_, _++_}
@@ -14,12 +14,13 @@ use Rattle.chart_model.specs.Build.{places}
 use Rattle.records.specs.declared.index.Range.{Range}
 use Rattle.records.specs.Bits.{bitOf}
 use Rattle.records.specs.Room.{chartIn, stateOf, FootFits, FeetFit, markOf}
-use Rattle.records.specs.Index.{spanAt, Indexed}
+use Rattle.records.specs.Index.{spans, spanAt, Indexed}
 use Rattle.records.specs.Cover.{Covered}
-use Rattle.chart.specs.Tables.{Sorted, leftIs, OwnSet}
+use Rattle.chart.specs.declared.sets.Meeting.{Meeting}
+use Rattle.chart.specs.Tables.{Rows, Sorted, leftIs, OwnSet}
 
 -- For each nonterminal A five sets of productions, at A, 16 + A, .., 64 + A: those of A; those whose first element is a side A, or a
--- dependent A; and those whose second is.
+-- dependent A; and those whose second is. Then 32 sets of word productions: those for the word w are in the one at 80 + w % 32.
 abbrev pub FirstSide : ℕ → Rule → Type 0
 FirstSide A (Lexical A′ w) = ⊥
 FirstSide A (Spine A′ a [] D after) = ⊥
@@ -41,6 +42,11 @@ SecondDependent A (Lexical A′ w) = ⊥
 SecondDependent A (Spine A′ a [] D after) = ⊥
 SecondDependent A (Spine A′ a (B ∷ before) D after) = D ≡ A
 
+-- A word production for w.
+abbrev pub WordRule : ℕ → Rule → Type 0
+WordRule w (Lexical A w′) = w ≡ w′
+WordRule w (Spine A a before D after) = ⊥
+
 -- The set has every production that a test names.
 abbrev pub SetOf : List Rule → (Rule → Type 0) → ℕ → Type 0
 SetOf g test set = (p : ℕ) (r : Rule) → getElem? g p ≡ some r → bitOf p set ≡ 0 → test r → ⊥
@@ -51,6 +57,7 @@ pub record Classified (g : List Rule) (by : List ℕ) : Type 0 where
   pub firstDependents : (A : ℕ) → A < 16 → SetOf g (FirstDependent A) (getD by (32 + A) 0)
   pub secondSides : (A : ℕ) → A < 16 → SetOf g (SecondSide A) (getD by (48 + A) 0)
   pub secondDependents : (A : ℕ) → A < 16 → SetOf g (SecondDependent A) (getD by (64 + A) 0)
+  pub words : (w : ℕ) → SetOf g (WordRule w) (getD by (80 + w % 32) 0)
 
 -- Production p into the set at a place; and into each set that its rule asks for, where no set loses a bit or
 -- gains another.
@@ -66,25 +73,42 @@ pub record Joined (r : Rule) (p : ℕ) (old new : List ℕ) : Type 0 where
   pub firstDependent : (A : ℕ) → FirstDependent A r → bitOf p (getD new (32 + A) 0) ≡ 0 → ⊥
   pub secondSide : (A : ℕ) → SecondSide A r → bitOf p (getD new (48 + A) 0) ≡ 0 → ⊥
   pub secondDependent : (A : ℕ) → SecondDependent A r → bitOf p (getD new (64 + A) 0) ≡ 0 → ⊥
+  pub word : (w : ℕ) → WordRule w r → bitOf p (getD new (80 + w % 32) 0) ≡ 0 → ⊥
 
--- The word productions for w are in the set; and the productions that have both elements at some split.
-abbrev pub WordRule : ℕ → Rule → Type 0
-WordRule w (Lexical A w′) = w ≡ w′
-WordRule w (Spine A a before D after) = ⊥
+-- The least nonterminal from `from` on, and below N, that has a production in the set; or N.
+pub record NextLeft (by : List ℕ) (set from N A : ℕ) : Type 0 where
+  pub later : from ≤ A
+  pub within : A ≤ N
+  pub passed : (B : ℕ) → from ≤ B → B < A → bitAnd (getD by B 0) set ≡ 0
+  pub has : A < N → bitAnd (getD by A 0) set ≡ 0 → ⊥
 
-abbrev pub Meets : ℕ → List ℕ → ℕ → ℕ → ℕ → Type 0
-Meets n sets i j set = (p k : ℕ) → i < k → k < j → bitOf p set ≡ 0
-    → bitOf p (bitAnd (getD sets (2 * spanAt i k) 0) (getD sets (2 * spanAt k j + 1) 0)) ≡ 0
+-- The productions that have both elements at the split k of i to j.
+abbrev pub bothAt : List ℕ → ℕ → ℕ → ℕ → ℕ
+bothAt sets i k j = bitAnd (getD sets (2 * spanAt i k) 0) (getD sets (2 * spanAt k j + 1) 0)
 
--- The set of a span has every production that can add to it.
-pub record SpanSet (g : List Rule) (n : ℕ) (sets words : List ℕ) (i j set : ℕ) : Type 0 where
-  pub ofWord : j ≡ i + 1 → SetOf g (WordRule (getD words i 0)) set
-  pub ofSplits : i + 1 < j → Meets n sets i j set
+-- A set of splits of i to j, with the productions of each, that has every split at which there is such a production; and a set that has
+-- the productions of every split.
+pub record Met (sets : List ℕ) (i j : ℕ) (both : List ℕ) (splits : ℕ) : Type 0 where
+  pub long : length both ≡ 25
+  pub inside : (k : ℕ) → bitOf k splits ≡ 1 → (i < k) × (k < j)
+  pub there : (k : ℕ) → bitOf k splits ≡ 1 → getD both k 0 ≡ bothAt sets i k j
+  pub none : (k : ℕ) → i < k → k < j → bitOf k splits ≡ 0 → bothAt sets i k j ≡ 0
 
--- A cell's records are noted in the sets of its span: a bit is 0 afterwards only if it was, and if the cell's own sets lack it.
+abbrev pub Meets : List ℕ → ℕ → ℕ → ℕ → Type 0
+Meets sets i j set = (p k : ℕ) → i < k → k < j → bitOf p set ≡ 0 → bitOf p (bothAt sets i k j) ≡ 0
+
+-- What is found for a span: the set of its one word, or what meets at its splits.
+pub record SpanSet (by sets words : List ℕ) (i j : ℕ) (both : List ℕ) (r : Meeting) : Type 0 where
+  pub ofWord : j ≡ i + 1 → r .productions ≡ getD by (80 + getD words i 0 % 32) 0
+  pub ofSplits : Meets sets i j (r .productions)
+  pub met : Met sets i j both (r .splits)
+
+-- A cell's records are noted in the sets of its span: a bit is 0 afterwards only if it was, and if the cell's own sets lack it. The sets
+-- of other spans are as they were, and the sets of places agree again.
 pub record Noted (n : ℕ) (by : List ℕ) (A i j bare : ℕ) (old new : List ℕ) : Type 0 where
   pub sameLength : length new ≡ length old
-  pub elsewhere : (s : ℕ) → (s ≡ 2 * spanAt i j → ⊥) → (s ≡ 2 * spanAt i j + 1 → ⊥) → getD new s 0 ≡ getD old s 0
+  pub rows : Rows n new
+  pub elsewhere : (s : ℕ) → s < 2 * spans n → (s ≡ 2 * spanAt i j → ⊥) → (s ≡ 2 * spanAt i j + 1 → ⊥) → getD new s 0 ≡ getD old s 0
   pub firsts : (p : ℕ) → bitOf p (getD new (2 * spanAt i j) 0) ≡ 0
       → (bitOf p (getD old (2 * spanAt i j) 0) ≡ 0) × (bitOf p (getD by (32 + A) 0) ≡ 0)
       × ((bare ≡ 0 → ⊥) → bitOf p (getD by (16 + A) 0) ≡ 0)
@@ -119,15 +143,15 @@ pub record Filled (g : List Rule) (n N room : ℕ) (Other : ℕ → ℕ → ℕ 
   pub ready : after ≤ room → Between g n N room new marks index covers sets after
   pub others : after ≤ room → (A i j : ℕ) → Other A i j → places (chartIn new after) A i j ≡ places (chartIn old count) A i j
 
--- Cells other than one, than those of one span, and than those of one length.
+-- Cells other than one, than those of one span, and than those of one end.
 abbrev pub OtherCell : ℕ → ℕ → ℕ → ℕ → ℕ → ℕ → Type 0
 OtherCell A i j A′ i′ j′ = A′ ≡ A → i′ ≡ i → j′ ≡ j → ⊥
 
 abbrev pub OtherSpan : ℕ → ℕ → ℕ → ℕ → ℕ → Type 0
 OtherSpan i j A′ i′ j′ = i′ ≡ i → j′ ≡ j → ⊥
 
-abbrev pub OtherLength : ℕ → ℕ → ℕ → ℕ → Type 0
-OtherLength len A′ i′ j′ = j′ ≡ i′ + len → ⊥
+abbrev pub OtherEnd : ℕ → ℕ → ℕ → ℕ → Type 0
+OtherEnd j A′ i′ j′ = j′ ≡ j → ⊥
 
 -- All spans are closed: the room holds the model's chart and then what was there; or an item did not fit.
 pub record Closed (room : ℕ) (s : Option (List Record)) (old new : List ℕ) (after : ℕ) : Type 0 where

@@ -1,6 +1,7 @@
 -- The sets beside the room: which productions have an element over a span; and the packed productions as a grammar.
 use Prim.Native.Nat.{ℕ, zero, suc, _+_, _*_, _-_, _/_, _%_, _≤_, _<_}
 use mathlib.Core.Path.{_≡_}
+use mathlib.Core.Logic.{_⊎_}
 use mathlib.Core.Bool.{Bool, true, false, cond, _&&_}
 use mathlib.Core.List.{List, [], _∷_}
 use mathlib.Core.Option.{Option, none, some}
@@ -10,12 +11,23 @@ use Rattle.grammar.specs.Rewriting.{Rule, Lexical, Spine}
 use Rattle.grammar.specs.ItemList.{isBare}
 use Rattle.grammar.specs.Chart.{Record}
 use Rattle.layout.specs.Card.{ruleOf}
-use Rattle.chart_model.specs.Build.{places, barePlaces, byRuleOver}
+use Rattle.chart_model.specs.Build.{places, barePlaces, turned, byRuleOver}
 use Rattle.records.specs.Bits.{bitOf, holdsBit}
 use Rattle.records.specs.Room.{footThere, markSlot}
 use Rattle.records.specs.Index.{spans, spanAt}
 use Rattle.records.specs.declared.index.Range.{Range}
 use Rattle.steps.specs.Fits.{RuleFits}
+
+-- The least number of a set of bits; and a set without one of its numbers.
+pub record Least (set k : ℕ) : Type 0 where
+  pub small : k < 64
+  pub has : bitOf k set ≡ 1
+  pub first : (q : ℕ) → q < k → bitOf q set ≡ 0
+
+pub record Without (set k rest : ℕ) : Type 0 where
+  pub gone : bitOf k rest ≡ 0
+  pub kept : (q : ℕ) → (q ≡ k → ⊥) → bitOf q rest ≡ bitOf q set
+  pub less : rest < set
 
 -- Neither element of a rule over a split: what the sets let the builder pass over.
 abbrev pub FirstAbsent : List Record → ℕ → ℕ → Rule → Type 0
@@ -29,13 +41,41 @@ SecondAbsent b k j (Spine A a [] D []) = Unit {0}
 SecondAbsent b k j (Spine A a [] D (B ∷ after)) = barePlaces b B k j ≡ []
 SecondAbsent b k j (Spine A a (B ∷ before) D after) = places b D k j ≡ []
 
+-- After the sets of the spans of n words come two sets of places for each place. The row of i has the end of every span from i whose
+-- first set is not empty, and the column of j the start of every span to j whose second set is not; both have only ends and starts of
+-- spans.
+abbrev pub rowAt : ℕ → ℕ → ℕ
+rowAt n i = 2 * spans n + 2 * i
+
+abbrev pub columnAt : ℕ → ℕ → ℕ
+columnAt n j = 2 * spans n + 2 * j + 1
+
+pub record Rows (n : ℕ) (sets : List ℕ) : Type 0 where
+  pub long : 2 * spans n + 2 * (n + 1) ≤ length sets
+  pub ends : (i k : ℕ) → i < k → k ≤ n → bitOf k (getD sets (rowAt n i) 0) ≡ 0 → getD sets (2 * spanAt i k) 0 ≡ 0
+  pub starts : (k j : ℕ) → k < j → j ≤ n → bitOf k (getD sets (columnAt n j) 0) ≡ 0 → getD sets (2 * spanAt k j + 1) 0 ≡ 0
+  pub endsAfter : (i k : ℕ) → bitOf k (getD sets (rowAt n i) 0) ≡ 1 → (i < k) × (k ≤ n)
+  pub startsBefore : (k j : ℕ) → bitOf k (getD sets (columnAt n j) 0) ≡ 1 → (k < j) × (j ≤ n)
+
 -- For each span two sets of productions: those whose first element is there, and those whose second is.
 pub record Sorted (g : List Rule) (n : ℕ) (b : List Record) (sets : List ℕ) : Type 0 where
-  pub long : 2 * spans n ≤ length sets
+  pub rows : Rows n sets
   pub firsts : (p : ℕ) (r : Rule) (i k : ℕ) → getElem? g p ≡ some r → i < k → k ≤ n
       → bitOf p (getD sets (2 * spanAt i k) 0) ≡ 0 → FirstAbsent b i k r
   pub seconds : (p : ℕ) (r : Rule) (k j : ℕ) → getElem? g p ≡ some r → k < j → j ≤ n
       → bitOf p (getD sets (2 * spanAt k j + 1) 0) ≡ 0 → SecondAbsent b k j r
+
+-- Splits of i to j with the productions of each: at a split that is left out, and for a production that a split lacks, one of the
+-- production's elements is missing.
+pub record Splits (g : List Rule) (b : List Record) (i j : ℕ) (both : List ℕ) (splits : ℕ) : Type 0 where
+  pub inside : (k : ℕ) → bitOf k splits ≡ 1 → (i < k) × (k < j)
+  pub absent : (p : ℕ) (r : Rule) (k : ℕ) → getElem? g p ≡ some r → i < k → k < j
+      → (bitOf k splits ≡ 0) ⊎ (bitOf p (getD both k 0) ≡ 0) → FirstAbsent b i k r ⊎ SecondAbsent b k j r
+
+-- The turns of the splits that have production p.
+pub record Turns (both : List ℕ) (splits p : ℕ) (back : Bool) (sum turns : ℕ) : Type 0 where
+  pub has : (k : ℕ) → bitOf k splits ≡ 1 → bitOf (turned back sum k) turns ≡ 0 → bitOf p (getD both k 0) ≡ 0
+  pub only : (m : ℕ) → bitOf m turns ≡ 1 → (k : ℕ) × (bitOf k splits ≡ 1) × (bitOf p (getD both k 0) ≡ 1) × (m ≡ turned back sum k)
 
 -- The left side of a rule; and a set that has every production of A, and no bit past the last production.
 abbrev pub leftIs : ℕ → Rule → Type 0

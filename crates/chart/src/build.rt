@@ -1,18 +1,18 @@
-// Cell by cell, span by span, length by length.
+// Cell by cell, span by span, end by end.
+use crate::sets::Meeting;
 use records::add::Sizes;
 use records::record::Cell;
 use records::record::wide;
 ghost use mathlib.Core.Path.{_≡_};
 ghost use mathlib.Core.List.{[]};
 ghost use mathlib.Core.Option.{some};
-ghost use Prim.Native.Nat.{ℕ, _+_, _-_, _*_, _≤_, _<_};
+ghost use Prim.Native.Nat.{ℕ, _+_, _-_, _≤_, _<_};
 ghost use lib.ListN.{length, getD, take};
 ghost use Rattle.grammar.specs.Input.{wordIs};
-ghost use Rattle.chart_model.specs.Build.{places, fillCell, closeSpan, closeLength, build};
+ghost use Rattle.chart_model.specs.Build.{places, fillCell, closeSpan, closeEnd, build};
 ghost use Rattle.records.specs.Room.{chartIn};
-ghost use Rattle.records.specs.Index.{spans};
-ghost use Rattle.chart.specs.Tables.{CellSet, grammarIn, RulesFit};
-ghost use Rattle.chart.specs.Fill.{Classified, Between, Filled, OtherCell, OtherSpan, OtherLength, SpanSet, Closed};
+ghost use Rattle.chart.specs.Tables.{Splits, CellSet, grammarIn, RulesFit, Rows};
+ghost use Rattle.chart.specs.Fill.{Classified, Between, Filled, OtherCell, OtherSpan, OtherEnd, SpanSet, Closed};
 
 // One cell: its records, and then its place in the tables. The set has every production that can add to it.
 fn fill_cell(
@@ -21,7 +21,9 @@ fn fill_cell(
     index: &mut [u16],
     covers: &mut [u16],
     sets: &mut [u64],
-    by: &[u64; 80],
+    both: &[u64; 25],
+    splits: u64,
+    by: &[u64; 112],
     z: Sizes,
     c: Cell,
     rules: &[u64; 64],
@@ -30,7 +32,7 @@ fn fill_cell(
     set: u64,
     count: usize,
 ) -> usize
-    requires { ⌜ Between (grammarIn (now rules) many) (z .words) (z .symbols) (z .room) (now chart) (now marks) (now index) (now covers) (now sets) count × (z .base ≡ count) × RulesFit (z .symbols) (now rules) × Classified (grammarIn (now rules) many) (now by) × (c .left < z .symbols) × (c .from < c .to) × (c .to ≤ z .words) × (many ≤ 64) × (places (chartIn (now chart) count) (c .left) (c .from) (c .to) ≡ []) × CellSet (grammarIn (now rules) many) (wordIs (take (z .words) (now words))) (chartIn (now chart) count) (c .left) (c .from) (c .to - c .from) set × (z .words ≤ length (now words)) ⌝ }
+    requires { ⌜ Between (grammarIn (now rules) many) (z .words) (z .symbols) (z .room) (now chart) (now marks) (now index) (now covers) (now sets) count × (z .base ≡ count) × RulesFit (z .symbols) (now rules) × Classified (grammarIn (now rules) many) (now by) × (c .left < z .symbols) × (c .from < c .to) × (c .to ≤ z .words) × (many ≤ 64) × (places (chartIn (now chart) count) (c .left) (c .from) (c .to) ≡ []) × CellSet (grammarIn (now rules) many) (wordIs (take (z .words) (now words))) (chartIn (now chart) count) (c .left) (c .from) (c .to - c .from) set × (z .words ≤ length (now words)) × Splits (grammarIn (now rules) many) (chartIn (now chart) count) (c .from) (c .to) (now both) splits ⌝ }
     ensures { λ r. ⌜ Filled (grammarIn (now (rules .entry)) many) (z .words) (z .symbols) (z .room) (OtherCell (c .left) (c .from) (c .to)) (fillCell (z .room) (grammarIn (now (rules .entry)) many) (wordIs (take (z .words) (now (words .entry)))) (c .to - c .from) (c .from) (c .left) (some (chartIn (now (chart .entry)) count))) (now (chart .entry)) count (now (chart .exit)) (now (marks .exit)) (now (index .exit)) (now (covers .exit)) (now (sets .exit)) r ⌝ }
 {
     let now = crate::cell::fill_items(
@@ -38,7 +40,8 @@ fn fill_cell(
         marks,
         index,
         covers,
-        sets,
+        both,
+        splits,
         z,
         c,
         rules,
@@ -60,34 +63,93 @@ fn fill_cell(
     now
 }
 
-// The productions that can add to a span: word productions for its word, or those with both elements at some split.
+// What can add to a span: the word productions for its word, or those with both elements at some split, and these splits.
 fn span_set(
     sets: &[u64],
+    both: &mut [u64; 25],
+    by: &[u64; 112],
     n: usize,
+    i: usize,
+    j: usize,
+    words: &[u8; 24],
+) -> Meeting
+    requires { ⌜ (n ≤ 24) × (i < j) × (j ≤ n) × Rows n (now sets) × (length (now both) ≡ 25) ⌝ }
+    ensures { λ r. ⌜ SpanSet (now (by .entry)) (now (sets .entry)) (now (words .entry)) i j (now (both .exit)) r ⌝ }
+{
+    if j - i == 1 {
+        let w = words[i];
+        return Meeting {
+            splits: 0,
+            productions: by[80 + wide(w) % 32],
+        };
+    }
+    crate::sets::meet(sets, n, i, j, both)
+}
+
+// The cell of nonterminal a over i to j. The set has every production that can add to it.
+fn fill_left(
+    chart: &mut [u8],
+    marks: &mut [u8],
+    index: &mut [u16],
+    covers: &mut [u16],
+    sets: &mut [u64],
+    both: &[u64; 25],
+    splits: u64,
+    by: &[u64; 112],
+    n: usize,
+    symbols: usize,
+    room: usize,
+    a: usize,
     i: usize,
     j: usize,
     rules: &[u64; 64],
     many: usize,
     words: &[u8; 24],
-) -> u64
-    requires { ⌜ (n ≤ 24) × (i < j) × (j ≤ n) × (2 * spans n ≤ length (now sets)) × (many ≤ 64) ⌝ }
-    ensures { λ r. ⌜ SpanSet (grammarIn (now (rules .entry)) many) n (now (sets .entry)) (now (words .entry)) i j r ⌝ }
+    set: u64,
+    count: usize,
+) -> usize
+    requires { ⌜ Between (grammarIn (now rules) many) n symbols room (now chart) (now marks) (now index) (now covers) (now sets) count × RulesFit symbols (now rules) × Classified (grammarIn (now rules) many) (now by) × (a < symbols) × (i < j) × (j ≤ n) × (many ≤ 64) × (places (chartIn (now chart) count) a i j ≡ []) × CellSet (grammarIn (now rules) many) (wordIs (take n (now words))) (chartIn (now chart) count) a i (j - i) set × (n ≤ length (now words)) × Splits (grammarIn (now rules) many) (chartIn (now chart) count) i j (now both) splits ⌝ }
+    ensures { λ r. ⌜ Filled (grammarIn (now (rules .entry)) many) n symbols room (OtherCell a i j) (fillCell room (grammarIn (now (rules .entry)) many) (wordIs (take n (now (words .entry)))) (j - i) i a (some (chartIn (now (chart .entry)) count))) (now (chart .entry)) count (now (chart .exit)) (now (marks .exit)) (now (index .exit)) (now (covers .exit)) (now (sets .exit)) r ⌝ }
 {
-    if j - i == 1 {
-        let w = words[i];
-        return crate::sets::word_set(rules, many, w);
-    }
-    crate::sets::meeting(sets, n, i, j)
+    let z = Sizes {
+        words: n,
+        symbols,
+        room,
+        base: count,
+    };
+    let c = Cell {
+        left: a as u8,
+        from: i as u8,
+        to: j as u8,
+    };
+    fill_cell(
+        chart,
+        marks,
+        index,
+        covers,
+        sets,
+        both,
+        splits,
+        by,
+        z,
+        c,
+        rules,
+        many,
+        words,
+        set,
+        count,
+    )
 }
 
-// One span, nonterminal by nonterminal. A nonterminal that no production of the span's set has adds nothing.
+// One span, from one nonterminal that has a production in the span's set to the next. The others add nothing.
 fn close_span(
     chart: &mut [u8],
     marks: &mut [u8],
     index: &mut [u16],
     covers: &mut [u16],
     sets: &mut [u64],
-    by: &[u64; 80],
+    both: &mut [u64; 25],
+    by: &[u64; 112],
     n: usize,
     symbols: usize,
     room: usize,
@@ -98,88 +160,85 @@ fn close_span(
     words: &[u8; 24],
     count: usize,
 ) -> usize
-    requires { ⌜ Between (grammarIn (now rules) many) n symbols room (now chart) (now marks) (now index) (now covers) (now sets) count × RulesFit symbols (now rules) × Classified (grammarIn (now rules) many) (now by) × (i < j) × (j ≤ n) × (many ≤ 64) × ((A : ℕ) → places (chartIn (now chart) count) A i j ≡ []) × (n ≤ length (now words)) ⌝ }
-    ensures { λ r. ⌜ Filled (grammarIn (now (rules .entry)) many) n symbols room (OtherSpan i j) (closeSpan room (grammarIn (now (rules .entry)) many) (wordIs (take n (now (words .entry)))) symbols (j - i) i (some (chartIn (now (chart .entry)) count))) (now (chart .entry)) count (now (chart .exit)) (now (marks .exit)) (now (index .exit)) (now (covers .exit)) (now (sets .exit)) r ⌝ }
+    requires { ⌜ Between (grammarIn (now rules) many) n symbols room (now chart) (now marks) (now index) (now covers) (now sets) count × RulesFit symbols (now rules) × Classified (grammarIn (now rules) many) (now by) × (i < j) × (j ≤ n) × (many ≤ 64) × ((A : ℕ) → places (chartIn (now chart) count) A i j ≡ []) × (n ≤ length (now words)) × (length (now both) ≡ 25) ⌝ }
+    ensures { λ r. ⌜ Filled (grammarIn (now (rules .entry)) many) n symbols room (OtherSpan i j) (closeSpan room (grammarIn (now (rules .entry)) many) (wordIs (take n (now (words .entry)))) symbols (j - i) i (some (chartIn (now (chart .entry)) count))) (now (chart .entry)) count (now (chart .exit)) (now (marks .exit)) (now (index .exit)) (now (covers .exit)) (now (sets .exit)) r × (length (now (both .exit)) ≡ 25) ⌝ }
 {
-    let set = span_set(sets, n, i, j, rules, many, words);
+    let met = span_set(sets, both, by, n, i, j, words);
+    let set = met.productions;
+    let splits = met.splits;
     if set == 0 {
         return count;
     }
-    let mut a = 0;
+    let mut a = crate::sets::next_left(by, set, 0, symbols);
     let mut now = count;
     while a < symbols {
         let own = by[a] & set;
-        if own != 0 {
-            let z = Sizes {
-                words: n,
-                symbols,
-                room,
-                base: now,
-            };
-            let c = Cell {
-                left: a as u8,
-                from: i as u8,
-                to: j as u8,
-            };
-            now = fill_cell(
-                chart,
-                marks,
-                index,
-                covers,
-                sets,
-                by,
-                z,
-                c,
-                rules,
-                many,
-                words,
-                own,
-                now,
-            );
-            if room < now {
-                return now;
-            }
+        now = fill_left(
+            chart,
+            marks,
+            index,
+            covers,
+            sets,
+            both,
+            splits,
+            by,
+            n,
+            symbols,
+            room,
+            a,
+            i,
+            j,
+            rules,
+            many,
+            words,
+            own,
+            now,
+        );
+        if room < now {
+            return now;
         }
-        a += 1;
+        a = crate::sets::next_left(by, set, a + 1, symbols);
     }
     now
 }
 
-// The spans of one length, from the left.
-fn close_length(
+// The spans that end at e + 1, from the shortest: each rests on those before it, and on earlier ends.
+fn close_end(
     chart: &mut [u8],
     marks: &mut [u8],
     index: &mut [u16],
     covers: &mut [u16],
     sets: &mut [u64],
-    by: &[u64; 80],
+    both: &mut [u64; 25],
+    by: &[u64; 112],
     n: usize,
     symbols: usize,
     room: usize,
-    len: usize,
+    e: usize,
     rules: &[u64; 64],
     many: usize,
     words: &[u8; 24],
     count: usize,
 ) -> usize
-    requires { ⌜ Between (grammarIn (now rules) many) n symbols room (now chart) (now marks) (now index) (now covers) (now sets) count × RulesFit symbols (now rules) × Classified (grammarIn (now rules) many) (now by) × (len < n) × (many ≤ 64) × ((A i : ℕ) → places (chartIn (now chart) count) A i (i + (len + 1)) ≡ []) × (n ≤ length (now words)) ⌝ }
-    ensures { λ r. ⌜ Filled (grammarIn (now (rules .entry)) many) n symbols room (OtherLength (len + 1)) (closeLength room (grammarIn (now (rules .entry)) many) (wordIs (take n (now (words .entry)))) symbols n len (some (chartIn (now (chart .entry)) count))) (now (chart .entry)) count (now (chart .exit)) (now (marks .exit)) (now (index .exit)) (now (covers .exit)) (now (sets .exit)) r ⌝ }
+    requires { ⌜ Between (grammarIn (now rules) many) n symbols room (now chart) (now marks) (now index) (now covers) (now sets) count × RulesFit symbols (now rules) × Classified (grammarIn (now rules) many) (now by) × (e < n) × (many ≤ 64) × ((A i : ℕ) → places (chartIn (now chart) count) A i (e + 1) ≡ []) × (n ≤ length (now words)) × (length (now both) ≡ 25) ⌝ }
+    ensures { λ r. ⌜ Filled (grammarIn (now (rules .entry)) many) n symbols room (OtherEnd (e + 1)) (closeEnd room (grammarIn (now (rules .entry)) many) (wordIs (take n (now (words .entry)))) symbols e (some (chartIn (now (chart .entry)) count))) (now (chart .entry)) count (now (chart .exit)) (now (marks .exit)) (now (index .exit)) (now (covers .exit)) (now (sets .exit)) r × (length (now (both .exit)) ≡ 25) ⌝ }
 {
-    let mut i = 0;
+    let mut m = 0;
     let mut now = count;
-    while i + len < n {
+    while m <= e {
         now = close_span(
             chart,
             marks,
             index,
             covers,
             sets,
+            both,
             by,
             n,
             symbols,
             room,
-            i,
-            i + len + 1,
+            e - m,
+            e + 1,
             rules,
             many,
             words,
@@ -188,19 +247,20 @@ fn close_length(
         if room < now {
             return now;
         }
-        i += 1;
+        m += 1;
     }
     now
 }
 
-// All lengths. The tables are lent, and are 0 at the start.
+// All ends, from the left. The tables are lent, and are 0 at the start.
 pub fn close_all(
     chart: &mut [u8],
     marks: &mut [u8],
     index: &mut [u16],
     covers: &mut [u16],
     sets: &mut [u64],
-    by: &[u64; 80],
+    both: &mut [u64; 25],
+    by: &[u64; 112],
     n: usize,
     symbols: usize,
     room: usize,
@@ -208,23 +268,24 @@ pub fn close_all(
     many: usize,
     words: &[u8; 24],
 ) -> usize
-    requires { ⌜ Between (grammarIn (now rules) many) n symbols room (now chart) (now marks) (now index) (now covers) (now sets) 0 × RulesFit symbols (now rules) × Classified (grammarIn (now rules) many) (now by) × (many ≤ 64) × (n ≤ length (now words)) ⌝ }
+    requires { ⌜ Between (grammarIn (now rules) many) n symbols room (now chart) (now marks) (now index) (now covers) (now sets) 0 × RulesFit symbols (now rules) × Classified (grammarIn (now rules) many) (now by) × (many ≤ 64) × (n ≤ length (now words)) × (length (now both) ≡ 25) ⌝ }
     ensures { λ r. ⌜ Closed room (build room (grammarIn (now (rules .entry)) many) (wordIs (take n (now (words .entry)))) symbols n) (now (chart .entry)) (now (chart .exit)) r ⌝ }
 {
-    let mut len = 0;
+    let mut e = 0;
     let mut now = 0;
-    while len < n {
-        now = close_length(
+    while e < n {
+        now = close_end(
             chart,
             marks,
             index,
             covers,
             sets,
+            both,
             by,
             n,
             symbols,
             room,
-            len,
+            e,
             rules,
             many,
             words,
@@ -233,7 +294,7 @@ pub fn close_all(
         if room < now {
             return now;
         }
-        len += 1;
+        e += 1;
     }
     now
 }

@@ -16,7 +16,7 @@ ghost use Rattle.chart_model.specs.Build.{byWord, acrossSplits, byRuleOver, can
 ghost use Rattle.records.specs.Room.{chartIn, Working, Added};
 ghost use Rattle.records.specs.Index.{Indexed, SpanFits};
 ghost use Rattle.records.specs.Cover.{Covering, Advanced};
-ghost use Rattle.chart.specs.Tables.{Sorted, CellSet, packedRule, grammarIn, RulesFit, thisWord, isWordOf, Finished};
+ghost use Rattle.chart.specs.Tables.{Splits, CellSet, packedRule, grammarIn, RulesFit, thisWord, isWordOf, Finished};
 
 // What production p adds at a place with word w.
 fn at_word(
@@ -76,14 +76,14 @@ fn is_word(rule: Production, a: u8, w: u8) -> bool
     }
 }
 
-// What production p adds at every split of the span. Bit p of a set is for production p: where it is not in both sets of a split, an
-// element is missing there.
+// What production p adds at every split of the span, turn by turn. At a turn that is left out one of its elements is missing.
 fn across_splits(
     chart: &mut [u8],
     marks: &mut [u8],
     index: &[u16],
     covers: &mut [u16],
-    sets: &[u64],
+    both: &[u64; 25],
+    splits: u64,
     z: Sizes,
     c: Cell,
     rules: &[u64; 64],
@@ -91,36 +91,34 @@ fn across_splits(
     p: usize,
     count: usize,
 ) -> usize
-    requires { ⌜ Working (z .words) (z .symbols) (z .room) (c .left) (c .from) (c .to) (now chart) (now marks) count × (z .base ≤ count) × Indexed (z .words) (z .symbols) (chartIn (now chart) (z .base)) (now index) × RulesFit (z .symbols) (now rules) × (c .from < c .to) × (c .to ≤ z .words) × (many ≤ 64) × (p < many) × Sorted (grammarIn (now rules) many) (z .words) (chartIn (now chart) (z .base)) (now sets) × Covering (z .words) (z .symbols) (c .left) (c .from) (c .to) (chartIn (now chart) (z .base)) (chartIn (now chart) count) (now covers) × SpanFits (z .words) (z .symbols) (c .left) (c .from) (c .to) ⌝ }
+    requires { ⌜ Working (z .words) (z .symbols) (z .room) (c .left) (c .from) (c .to) (now chart) (now marks) count × (z .base ≤ count) × Indexed (z .words) (z .symbols) (chartIn (now chart) (z .base)) (now index) × RulesFit (z .symbols) (now rules) × (c .from < c .to) × (c .to ≤ z .words) × (many ≤ 64) × (p < many) × Splits (grammarIn (now rules) many) (chartIn (now chart) (z .base)) (c .from) (c .to) (now both) splits × Covering (z .words) (z .symbols) (c .left) (c .from) (c .to) (chartIn (now chart) (z .base)) (chartIn (now chart) count) (now covers) × SpanFits (z .words) (z .symbols) (c .left) (c .from) (c .to) ⌝ }
     ensures { λ r. ⌜ Advanced (z .words) (z .symbols) (z .room) (c .left) (c .from) (c .to) (z .base) (acrossSplits (chartIn (now (chart .entry)) (z .base)) (c .left) (c .from) (c .to) p (packedRule (getD (now (rules .entry)) p 0))) (now (chart .entry)) (now (marks .entry)) count (now (chart .exit)) (now (marks .exit)) (now (covers .exit)) r ⌝ }
 {
     let rule = crate::rules::rule_at(rules, p);
-    let bit = 1u64 << p;
-    let i = wide(c.from);
-    let j = wide(c.to);
-    let mut k = i + 1;
+    let back = crate::rules::side_is_last(rule);
+    let sum = wide(c.from) + wide(c.to);
+    let turns = crate::sets::turns_of(both, splits, p, back, sum);
+    let mut rest = turns;
     let mut now = count;
-    while k < j {
-        let first = sets[2 * records::index::span_at(z.words, i, k)];
-        let second = sets[2 * records::index::span_at(z.words, k, j) + 1];
-        if first & second & bit != 0 {
-            now = steps::step::by_production(
-                chart,
-                marks,
-                index,
-                covers,
-                z,
-                c,
-                k as u8,
-                p as u8,
-                rule,
-                now,
-            );
-            if z.room < now {
-                return now;
-            }
+    while rest != 0 {
+        let m = crate::bits::least(rest);
+        let k = crate::sets::turned(m, back, sum);
+        rest = crate::bits::without(rest, m);
+        now = steps::step::by_production(
+            chart,
+            marks,
+            index,
+            covers,
+            z,
+            c,
+            k as u8,
+            p as u8,
+            rule,
+            now,
+        );
+        if z.room < now {
+            return now;
         }
-        k += 1;
     }
     now
 }
@@ -131,7 +129,8 @@ fn by_rule(
     marks: &mut [u8],
     index: &[u16],
     covers: &mut [u16],
-    sets: &[u64],
+    both: &[u64; 25],
+    splits: u64,
     z: Sizes,
     c: Cell,
     rules: &[u64; 64],
@@ -140,7 +139,7 @@ fn by_rule(
     p: usize,
     count: usize,
 ) -> usize
-    requires { ⌜ Working (z .words) (z .symbols) (z .room) (c .left) (c .from) (c .to) (now chart) (now marks) count × (z .base ≤ count) × Indexed (z .words) (z .symbols) (chartIn (now chart) (z .base)) (now index) × RulesFit (z .symbols) (now rules) × (c .from < c .to) × (c .to ≤ z .words) × (many ≤ 64) × (p < many) × Sorted (grammarIn (now rules) many) (z .words) (chartIn (now chart) (z .base)) (now sets) × (z .words ≤ length (now words)) × Covering (z .words) (z .symbols) (c .left) (c .from) (c .to) (chartIn (now chart) (z .base)) (chartIn (now chart) count) (now covers) × SpanFits (z .words) (z .symbols) (c .left) (c .from) (c .to) ⌝ }
+    requires { ⌜ Working (z .words) (z .symbols) (z .room) (c .left) (c .from) (c .to) (now chart) (now marks) count × (z .base ≤ count) × Indexed (z .words) (z .symbols) (chartIn (now chart) (z .base)) (now index) × RulesFit (z .symbols) (now rules) × (c .from < c .to) × (c .to ≤ z .words) × (many ≤ 64) × (p < many) × Splits (grammarIn (now rules) many) (chartIn (now chart) (z .base)) (c .from) (c .to) (now both) splits × (z .words ≤ length (now words)) × Covering (z .words) (z .symbols) (c .left) (c .from) (c .to) (chartIn (now chart) (z .base)) (chartIn (now chart) count) (now covers) × SpanFits (z .words) (z .symbols) (c .left) (c .from) (c .to) ⌝ }
     ensures { λ r. ⌜ Advanced (z .words) (z .symbols) (z .room) (c .left) (c .from) (c .to) (z .base) (byRuleOver (wordIs (take (z .words) (now (words .entry)))) (chartIn (now (chart .entry)) (z .base)) (c .left) (c .from) (c .to - c .from) p (packedRule (getD (now (rules .entry)) p 0))) (now (chart .entry)) (now (marks .entry)) count (now (chart .exit)) (now (marks .exit)) (now (covers .exit)) r ⌝ }
 {
     let from = wide(c.from);
@@ -155,7 +154,8 @@ fn by_rule(
         marks,
         index,
         covers,
-        sets,
+        both,
+        splits,
         z,
         c,
         rules,
@@ -171,7 +171,8 @@ pub fn fill_items(
     marks: &mut [u8],
     index: &[u16],
     covers: &mut [u16],
-    sets: &[u64],
+    both: &[u64; 25],
+    splits: u64,
     z: Sizes,
     c: Cell,
     rules: &[u64; 64],
@@ -180,21 +181,21 @@ pub fn fill_items(
     set: u64,
     count: usize,
 ) -> usize
-    requires { ⌜ Working (z .words) (z .symbols) (z .room) (c .left) (c .from) (c .to) (now chart) (now marks) count × (z .base ≤ count) × Indexed (z .words) (z .symbols) (chartIn (now chart) (z .base)) (now index) × RulesFit (z .symbols) (now rules) × (c .from < c .to) × (c .to ≤ z .words) × (many ≤ 64) × CellSet (grammarIn (now rules) many) (wordIs (take (z .words) (now words))) (chartIn (now chart) (z .base)) (c .left) (c .from) (c .to - c .from) set × Sorted (grammarIn (now rules) many) (z .words) (chartIn (now chart) (z .base)) (now sets) × (z .words ≤ length (now words)) × Covering (z .words) (z .symbols) (c .left) (c .from) (c .to) (chartIn (now chart) (z .base)) (chartIn (now chart) count) (now covers) × SpanFits (z .words) (z .symbols) (c .left) (c .from) (c .to) ⌝ }
+    requires { ⌜ Working (z .words) (z .symbols) (z .room) (c .left) (c .from) (c .to) (now chart) (now marks) count × (z .base ≤ count) × Indexed (z .words) (z .symbols) (chartIn (now chart) (z .base)) (now index) × RulesFit (z .symbols) (now rules) × (c .from < c .to) × (c .to ≤ z .words) × (many ≤ 64) × CellSet (grammarIn (now rules) many) (wordIs (take (z .words) (now words))) (chartIn (now chart) (z .base)) (c .left) (c .from) (c .to - c .from) set × Splits (grammarIn (now rules) many) (chartIn (now chart) (z .base)) (c .from) (c .to) (now both) splits × (z .words ≤ length (now words)) × Covering (z .words) (z .symbols) (c .left) (c .from) (c .to) (chartIn (now chart) (z .base)) (chartIn (now chart) count) (now covers) × SpanFits (z .words) (z .symbols) (c .left) (c .from) (c .to) ⌝ }
     ensures { λ r. ⌜ Advanced (z .words) (z .symbols) (z .room) (c .left) (c .from) (c .to) (z .base) (candidates (grammarIn (now (rules .entry)) many) (wordIs (take (z .words) (now (words .entry)))) (chartIn (now (chart .entry)) (z .base)) (c .left) (c .from) (c .to - c .from)) (now (chart .entry)) (now (marks .entry)) count (now (chart .exit)) (now (marks .exit)) (now (covers .exit)) r ⌝ }
 {
-    let mut left = set;
-    let mut p = 0;
+    let mut rest = set;
     let mut now = count;
-    while left != 0 {
-        let skip = u64::trailing_zeros(left);
-        p += skip as usize;
+    while rest != 0 {
+        let p = crate::bits::least(rest);
+        rest = crate::bits::without(rest, p);
         now = by_rule(
             chart,
             marks,
             index,
             covers,
-            sets,
+            both,
+            splits,
             z,
             c,
             rules,
@@ -206,8 +207,6 @@ pub fn fill_items(
         if z.room < now {
             return now;
         }
-        left = (left >> skip) / 2;
-        p += 1;
     }
     now
 }

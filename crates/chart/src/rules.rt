@@ -3,9 +3,10 @@ use card::Production;
 use card::productions::Fields;
 ghost use mathlib.Core.Path.{_≡_};
 ghost use Prim.Native.Nat.{_≤_, _<_};
-ghost use lib.ListN.{getD};
+ghost use lib.ListN.{getD, replicate};
 ghost use Rattle.layout.specs.Card.{ruleOf};
 ghost use Rattle.card.specs.Productions.{ruleFrom};
+ghost use Rattle.chart_model.specs.Build.{dependentFirst};
 ghost use Rattle.chart.specs.Tables.{packedRule};
 ghost use Rattle.chart.specs.Built.{DecodedAll};
 
@@ -18,18 +19,17 @@ fn pack(f: Fields) -> u64
     first + 65536 * second + 4294967296 * (f.g as u64)
 }
 
-pub fn decode_all(card: &[u8], many: usize) -> [u64; 64]
-    requires { ⌜ many ≤ 64 ⌝ }
-    ensures { λ r. ⌜ DecodedAll (now (card .entry)) many r ⌝ }
+// The first `many` productions, in a table that is all 0.
+pub fn decode_all(card: &[u8], many: usize, rules: &mut [u64; 64])
+    requires { ⌜ (many ≤ 64) × (now rules ≡ replicate 64 0) ⌝ }
+    ensures { λ u. ⌜ DecodedAll (now (card .entry)) many (now (rules .exit)) ⌝ }
 {
-    let mut rules = [0u64; 64];
     let mut m = 0;
     while m < many {
         let f = card::productions::fields_of(card, m);
         rules[m] = pack(f);
         m += 1;
     }
-    rules
 }
 
 // Production p.
@@ -44,4 +44,25 @@ pub fn rule_at(rules: &[u64; 64], p: usize) -> Production
     let c = (w / 16777216 % 256) as u8;
     let g = (w / 4294967296 % 256) as u8;
     card::productions::production_of(kind, left, b, c, g)
+}
+
+// Does a side stand last, after the dependent?
+pub fn side_is_last(rule: Production) -> bool
+    ensures { λ r. ⌜ r ≡ dependentFirst (ruleFrom rule) ⌝ }
+{
+    match rule {
+        Production::Word { left: _, word: _ } => false,
+        Production::SideFirst {
+            left: _,
+            action: _,
+            side: _,
+            dependent: _,
+        } => false,
+        Production::SideLast {
+            left: _,
+            action: _,
+            dependent: _,
+            side: _,
+        } => true,
+    }
 }

@@ -28,14 +28,18 @@ fn build_with(
     let counts = Card::of(card);
     let many = counts.productions;
     let symbols = counts.nonterminals;
-    let rules = crate::rules::decode_all(card, many);
-    let by = crate::sets::classify(&rules, many);
+    let mut rules = [0u64; 64];
+    crate::rules::decode_all(card, many, &mut rules);
+    let mut by = [0u64; 112];
+    crate::sets::classify(&rules, many, &mut by);
+    let mut both = [0u64; 25];
     crate::build::close_all(
         chart,
         marks,
         index,
         covers,
         sets,
+        &mut both,
         &by,
         n,
         symbols,
@@ -53,7 +57,7 @@ fn build_least(card: &[u8], words: &[u8; 24], n: usize, room: usize, chart: &mut
     let mut marks = [0u8; 97];
     let mut index = [0u16; 180];
     let mut covers = [0u16; 60];
-    let mut sets = [0u64; 20];
+    let mut sets = [0u64; 30];
     build_with(
         card,
         words,
@@ -74,7 +78,7 @@ fn build_short(card: &[u8], words: &[u8; 24], n: usize, room: usize, chart: &mut
     let mut marks = [0u8; 577];
     let mut index = [0u16; 1008];
     let mut covers = [0u16; 336];
-    let mut sets = [0u64; 42];
+    let mut sets = [0u64; 56];
     build_with(
         card,
         words,
@@ -95,7 +99,7 @@ fn build_middle_few(card: &[u8], words: &[u8; 24], n: usize, room: usize, chart:
     let mut marks = [0u8; 865];
     let mut index = [0u16; 1404];
     let mut covers = [0u16; 468];
-    let mut sets = [0u64; 156];
+    let mut sets = [0u64; 182];
     build_with(
         card,
         words,
@@ -116,7 +120,7 @@ fn build_middle(card: &[u8], words: &[u8; 24], n: usize, room: usize, chart: &mu
     let mut marks = [0u8; 2305];
     let mut index = [0u16; 3744];
     let mut covers = [0u16; 1248];
-    let mut sets = [0u64; 156];
+    let mut sets = [0u64; 182];
     build_with(
         card,
         words,
@@ -137,7 +141,7 @@ fn build_long_few(card: &[u8], words: &[u8; 24], n: usize, room: usize, chart: &
     let mut marks = [0u8; 3457];
     let mut index = [0u16; 5400];
     let mut covers = [0u16; 1800];
-    let mut sets = [0u64; 600];
+    let mut sets = [0u64; 650];
     build_with(
         card,
         words,
@@ -158,7 +162,7 @@ fn build_long(card: &[u8], words: &[u8; 24], n: usize, room: usize, chart: &mut 
     let mut marks = [0u8; 9217];
     let mut index = [0u16; 14400];
     let mut covers = [0u16; 4800];
-    let mut sets = [0u64; 600];
+    let mut sets = [0u64; 650];
     build_with(
         card,
         words,

@@ -1,6 +1,6 @@
 -- A candidate is justified, since what it names stands in the chart at the positions that the model looks up. And a cell's candidates
--- leave out none of its derived items, if the chart has every derived item of fewer words: all antecedents are such.
-use Prim.Native.Nat.{ℕ, zero, suc, _+_, _-_, _<_}
+-- leave out none of its derived items, if the chart has every derived item of fewer words within its span: all antecedents are such.
+use Prim.Native.Nat.{ℕ, zero, suc, _+_, _-_, _≤_, _<_}
 use native.Mathlib.Omega.{arith}
 use mathlib.Core.Path.{_≡_, refl, sym, _∙_, ap, subst}
 use mathlib.Core.Bool.{Bool, true, _&&_, false≢true, and-eq-true-iff}
@@ -23,8 +23,8 @@ use Rattle.grammar.proofs.Unfolding.{derived-longer}
 use Rattle.grammar.proofs.ItemTests.{in-choice, choice-in}
 use Rattle.grammar.proofs.ItemSteps.{Makes}
 use Rattle.grammar.proofs.ItemSteps
-use Rattle.chart_model.specs.Build.{isOf, isBareOf, places, barePlaces, footIn, footAt, takenFrom, keptFrom, continued, givenFoot, givenFrom, byAction, byRule, ruleAt, acrossSplits, byWord, byRuleOver, byProduction, candidates}
-use Rattle.chart_model.proofs.BuildLaws.{Has, in-flatUp, flatUp-in, in-placesAll, placesAll-in, in-option, option-in, map-wider}
+use Rattle.chart_model.specs.Build.{isOf, isBareOf, places, barePlaces, footIn, footAt, takenFrom, keptFrom, continued, givenFoot, givenFrom, byAction, byRule, dependentFirst, turned, ruleAt, acrossSplits, byWord, byRuleOver, byProduction, candidates}
+use Rattle.chart_model.proofs.BuildLaws.{Has, in-flatUp, flatUp-in, turned-within, turned-twice, in-placesAll, placesAll-in, in-option, option-in, map-wider}
 
 -- A record before the end.
 stands-earlier : {c : List Record} {x : ℕ} (e : Record) → Stands c x e → Earlier c (length c) x (itemOf e)
@@ -180,7 +180,7 @@ module _ (g : List Rule) (at : ℕ → ℕ → Bool) (c : List Record) (A i : �
   in-byRuleOver (suc (suc len)) p r s h =
       let j = i + suc (suc len) in
       let (k, a, b, m) = in-flatUp (ruleAt c A i j p r) (suc i) (j - suc i) h in
-      in-byRule k j p r s m
+      in-byRule (turned (dependentFirst r) (i + j) k) j p r s m
 
   pub in-candidates : {e : Record} (len : ℕ) → List·Memᴰ e (candidates g at c A i len) → Justified g (Holds at) c (length c) e
   in-candidates len h =
@@ -211,9 +211,12 @@ module _ (g : List Rule) (at : ℕ → ℕ → Bool) (c : List Record) where
   rule-in A i (suc zero) e s a b h = absurd (omega arith)
   rule-in {p} {k} {j} {r} {x} A i (suc (suc len)) e s a b h =
       let j′ = i + suc (suc len) in
+      let turn = turned (dependentFirst r) (i + j′) in
+      let (u, v) = turned-within (dependentFirst r) i j′ k a (omega arith) in
       production-in A i (suc (suc len)) s
       (map-wider itemOf (byRule c A i k j′ p r) _
-      (λ o m. flatUp-in (ruleAt c A i j′ p r) (suc i) (j′ - suc i) k a (omega arith) m)
+      (λ o m. flatUp-in (ruleAt c A i j′ p r) (suc i) (j′ - suc i) (turn k) u (omega arith)
+      (subst (λ (k′ : ℕ). List·Memᴰ o (byRule c A i k′ j′ p r)) (sym (turned-twice (dependentFirst r) (i + j′) k (omega arith))) m))
       (subst (λ (j″ : ℕ). Has (byRule c A i k j″ p r) x) e h))
 
   first-in : {p A B D i k j : ℕ} {a : Action} {ψ φ : Foot} (len : ℕ) → j ≡ i + len → Stands g p (Spine A a (B ∷ []) D [])
@@ -236,31 +239,36 @@ module _ (g : List Rule) (at : ℕ → ℕ → Bool) (c : List Record) where
       (λ r m. choice-in (eqb A A) _ (eqb-self A) (concatMap-in (byAction c a D i k A i j p) n m))
       (byAction-in c D i k A i j p x d w))
 
--- A rule's dependent lies within its result, and is shorter.
-dependent-shorter : {g : List Rule} {at : ℕ → ℕ → Type 0} {A D i k m j : ℕ} {a : Action} {before after : List ℕ}
-    → OneSide (Spine A a before D after) → Sides g at before i k → Sides g at after m j → i + m < k + j
-dependent-shorter isFirst (nextSide b noSide) noSide = let h = derived-longer b in omega arith
-dependent-shorter isLast noSide (nextSide b noSide) = let h = derived-longer b in omega arith
+-- The span k to m lies within i to j, and is shorter. A rule's dependent is so within its result.
+abbrev pub Inside : ℕ → ℕ → ℕ → ℕ → Type 0
+Inside i j k m = (i ≤ k) × (m ≤ j) × (i + m < k + j)
 
--- The candidates of a cell of `len` words have its derived items, if the chart has those of fewer words.
-module _ (n : ℕ) (g : List Rule) (at : ℕ → ℕ → Bool) (one : OneSided g) (below : Below (Holds at) n) (c : List Record) (len : ℕ)
-    (short : (A i j : ℕ) (φ : Foot) → Derived g (Holds at) A i j φ → j < i + len → Has c (item A i j φ)) where
-  spine-in : {p A D i k m j : ℕ} {a : Action} {before after : List ℕ} {ψ φ : Foot} → OneSide (Spine A a before D after)
+dependent-inside : {g : List Rule} {at : ℕ → ℕ → Type 0} {A D i k m j : ℕ} {a : Action} {before after : List ℕ}
+    → OneSide (Spine A a before D after) → Sides g at before i k → Sides g at after m j → Inside i j k m
+dependent-inside isFirst (nextSide b noSide) noSide = let h = derived-longer b in (omega arith, omega arith, omega arith)
+dependent-inside isLast noSide (nextSide b noSide) = let h = derived-longer b in (omega arith, omega arith, omega arith)
+
+-- The candidates of a cell of `len` words have its derived items, if the chart has those of fewer words within its span.
+module _ (n : ℕ) (g : List Rule) (at : ℕ → ℕ → Bool) (one : OneSided g) (below : Below (Holds at) n) (c : List Record) (len : ℕ) where
+  abbrev Short : ℕ → ℕ → Type 0
+  Short i j = (B k m : ℕ) (φ : Foot) → Derived g (Holds at) B k m φ → Inside i j k m → Has c (item B k m φ)
+
+  spine-in : {p A D i k m j : ℕ} {a : Action} {before after : List ℕ} {ψ φ : Foot} → Short i j → OneSide (Spine A a before D after)
       → j ≡ i + len → Stands g p (Spine A a before D after) → Sides g (Holds at) before i k → Derived g (Holds at) D k m ψ
       → Sides g (Holds at) after m j → Makes (map itemOf c) a D k m ψ φ → Has (candidates g at c A i len) (item A i j φ)
-  spine-in isFirst e s (nextSide b noSide) d noSide w =
+  spine-in short isFirst e s (nextSide b noSide) d noSide w =
       let x = derived-longer b in let y = derived-longer d in
       first-in g at c len e s x y (short _ _ _ _ b (omega arith)) (short _ _ _ _ d (omega arith)) w
-  spine-in isLast e s noSide d (nextSide b noSide) w =
+  spine-in short isLast e s noSide d (nextSide b noSide) w =
       let x = derived-longer b in let y = derived-longer d in
       last-in g at c len e s y x (short _ _ _ _ b (omega arith)) (short _ _ _ _ d (omega arith)) w
 
-  pub candidates-in : {A i j : ℕ} {φ : Foot} → j ≡ i + len → Derived g (Holds at) A i j φ
+  pub candidates-in : {A i j : ℕ} {φ : Foot} → Short i j → j ≡ i + len → Derived g (Holds at) A i j φ
       → Has (candidates g at c A i len) (item A i j φ)
-  candidates-in e (wordStep s t) = word-in g at c len e s t
-  candidates-in e (takeStep s b d a) = spine-in (one _ _ s) e s b d a ItemSteps.taken
-  candidates-in e (keepStep s b d a) = spine-in (one _ _ s) e s b d a ItemSteps.kept
-  candidates-in e (giveStep s b d a f) =
-      let u = dependent-shorter (one _ _ s) b a in
+  candidates-in short e (wordStep s t) = word-in g at c len e s t
+  candidates-in short e (takeStep s b d a) = spine-in short (one _ _ s) e s b d a ItemSteps.taken
+  candidates-in short e (keepStep s b d a) = spine-in short (one _ _ s) e s b d a ItemSteps.kept
+  candidates-in short e (giveStep s b d a f) =
+      let u = dependent-inside (one _ _ s) b a in
       let v = derived-bounds n below d in
-      spine-in (one _ _ s) e s b d a (ItemSteps.given (short _ _ _ _ f (omega arith)))
+      spine-in short (one _ _ s) e s b d a (ItemSteps.given (short _ _ _ _ f (omega arith)))

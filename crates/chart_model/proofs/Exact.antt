@@ -1,5 +1,6 @@
 -- The model builds a chart, or there are more derivable items than the room holds. Kept by every turn: each record is justified,
--- no item stands twice, and the filled cells have all their derived items; for a cell's antecedents lie in shorter cells.
+-- no item stands twice, and the filled cells have all their derived items; for a cell's antecedents lie in shorter spans within its own,
+-- and these end earlier, or end with it and start later.
 use Prim.Native.Nat.{ℕ, suc, _+_, _-_, _≤_, _<_}
 use native.Mathlib.Nat.{le-trans, le-refl}
 use native.Mathlib.Decide.{ℕ-discrete}
@@ -22,9 +23,9 @@ use Rattle.grammar.proofs.StandsLaws.{none-some, some-same}
 use Rattle.grammar.proofs.Bounds.{derived-bounds}
 use Rattle.grammar.proofs.Unfolding.{derived-longer, justified-derived}
 use Rattle.grammar.proofs.ItemListExact.{items-complete}
-use Rattle.chart_model.specs.Build.{candidates, addEach, fillCell, closeSpan, closeLength, build}
+use Rattle.chart_model.specs.Build.{candidates, addEach, fillCell, closeSpan, closeBack, closeEnd, build}
 use Rattle.chart_model.proofs.BuildLaws.{foldUp-keeps, Has, added-cases, addEach-none, stands-append, stands-cases, distinct-last}
-use Rattle.chart_model.proofs.Candidates.{in-candidates, candidates-in}
+use Rattle.chart_model.proofs.Candidates.{Inside, in-candidates, candidates-in}
 
 -- The left nonterminal of a rule.
 abbrev pub leftOf : Rule → ℕ
@@ -106,16 +107,20 @@ module _ (room : ℕ) {g : List Rule} {at : ℕ → ℕ → Bool} where
       (λ q m. justified-longer (r ∷ []) (omega arith) (js q (List·Memᴰ·tail m)))))
       (λ o l. rw (addEach-none room rs) (over (sound-more sound j o) (omega arith)))
 
--- The cells that were filled: the shorter ones; those of `len` words that start before i; and those over i to i + len of
--- nonterminals below A.
-abbrev Shorter : ℕ → ℕ → ℕ → ℕ → Type 0
-Shorter len A i j = j < i + len
+-- The cells that were filled: those that end at e or before; those that end before j₀, or at j₀ and start at i₀ or later; and, while
+-- the span from i₀ to j₀ is being closed, those before it and its own of nonterminals below A₀.
+abbrev Ended : ℕ → ℕ → ℕ → ℕ → Type 0
+Ended e A i j = j ≤ e
 
-abbrev Before : ℕ → ℕ → ℕ → ℕ → ℕ → Type 0
-Before len i₀ A i j = Shorter len A i j ⊎ ((j ≡ i + len) × (i < i₀))
+abbrev From : ℕ → ℕ → ℕ → ℕ → ℕ → Type 0
+From i₀ j₀ A i j = (j < j₀) ⊎ ((j ≡ j₀) × (i₀ ≤ i))
 
 abbrev Under : ℕ → ℕ → ℕ → ℕ → ℕ → ℕ → Type 0
-Under len i₀ A₀ A i j = Before len i₀ A i j ⊎ ((i ≡ i₀) × (j ≡ i + len) × (A < A₀))
+Under i₀ j₀ A₀ A i j = From (suc i₀) j₀ A i j ⊎ ((i ≡ i₀) × (j ≡ j₀) × (A < A₀))
+
+-- A shorter span within the one from i to j is among those that are closed before it.
+inside-closed : {i j k m : ℕ} (A : ℕ) → Inside i j k m → From (suc i) j A k m
+inside-closed {j = j} {m = m} A h = elim (ℕ-discrete m j) [ yes e ↦ inr (e, omega arith) | no d ↦ inl (omega arith) ]
 
 abbrev Cells : List Rule → (ℕ → ℕ → Bool) → (ℕ → ℕ → ℕ → Type 0) → Item → Type 0
 Cells g at P (item A i j φ) = Derived g (Holds at) A i j φ × P A i j
@@ -140,81 +145,92 @@ module _ (room N n : ℕ) (g : List Rule) (at : ℕ → ℕ → Bool) (one : One
   derived-left (giveStep s b d a e) = lefts _ _ s
 
   -- One cell: its derived items are candidates.
-  cell-has : (c : List Record) (len i₀ A₀ : ℕ) → ((x : Item) → Cells g at (Under len i₀ A₀) x → Has c x)
-      → (x : Item) → Cells g at (Under len i₀ (suc A₀)) x → Either c (candidates g at c A₀ i₀ len) x
+  cell-has : (c : List Record) (len i₀ A₀ : ℕ) → ((x : Item) → Cells g at (Under i₀ (i₀ + len) A₀) x → Has c x)
+      → (x : Item) → Cells g at (Under i₀ (i₀ + len) (suc A₀)) x → Either c (candidates g at c A₀ i₀ len) x
   cell-has c len i₀ A₀ has (item A i j φ) (d, inl b) = inl (has (item A i j φ) (d, inl b))
   cell-has c len i₀ A₀ has (item A i j φ) (d, inr (e, e′, l)) = elim (ℕ-discrete A A₀) [
     | yes q ↦ inr (subst₂ (λ (A′ i′ : ℕ). Has (candidates g at c A′ i′ len) (item A i j φ)) q e
-        (candidates-in n g at one below c len (λ A i j φ d l. has (item A i j φ) (d, inl (inl l))) e′ d))
+        (candidates-in n g at one below c len
+        (λ B k m ψ f h. has (item B k m ψ) (f, inl (inside-closed B (omega arith)))) (omega arith) d))
     | no q ↦ inl (has (item A i j φ) (d, inr (e, e′, omega arith)))
   ]
 
-  fill-cell : {s : Option (List Record)} (len i A : ℕ) → State (Under len i A) s
-      → State (Under len i (suc A)) (fillCell room g at len i A s)
+  fill-cell : {s : Option (List Record)} (len i A : ℕ) → State (Under i (i + len) A) s
+      → State (Under i (i + len) (suc A)) (fillCell room g at len i A s)
   fill-cell len i A (going {c} sound fits has) =
       reached-less (cell-has c len i A has)
       (add-each room (candidates g at c A i len) sound fits (λ r m. in-candidates g at c A i len m))
   fill-cell len i A (over sound long) = over sound long
 
   -- One span: the cells of every nonterminal.
-  span-start : (len i₀ A i j : ℕ) (φ : Foot) → Derived g (Holds at) A i j φ → Under len i₀ 0 A i j → Before len i₀ A i j
-  span-start len i₀ A i j φ d (inl b) = b
-  span-start len i₀ A i j φ d (inr (e, e′, l)) = absurd (omega arith)
+  span-start : (i₀ j₀ A i j : ℕ) (φ : Foot) → Derived g (Holds at) A i j φ → Under i₀ j₀ 0 A i j → From (suc i₀) j₀ A i j
+  span-start i₀ j₀ A i j φ d (inl b) = b
+  span-start i₀ j₀ A i j φ d (inr (e, e′, l)) = absurd (omega arith)
 
-  span-end : (len i₀ A i j : ℕ) (φ : Foot) → Derived g (Holds at) A i j φ → Before len (suc i₀) A i j → Under len i₀ N A i j
-  span-end len i₀ A i j φ d (inl b) = inl (inl b)
-  span-end len i₀ A i j φ d (inr (e, l)) = elim (ℕ-discrete i i₀) [
+  span-end : (i₀ j₀ A i j : ℕ) (φ : Foot) → Derived g (Holds at) A i j φ → From i₀ j₀ A i j → Under i₀ j₀ N A i j
+  span-end i₀ j₀ A i j φ d (inl b) = inl (inl b)
+  span-end i₀ j₀ A i j φ d (inr (e, l)) = elim (ℕ-discrete i i₀) [
     | yes q ↦ inr (q, e, derived-left d)
     | no q ↦ inl (inr (e, omega arith))
   ]
 
-  close-span : {s : Option (List Record)} (len i : ℕ) → State (Before len i) s
-      → State (Before len (suc i)) (closeSpan room g at N len i s)
+  close-span : {s : Option (List Record)} (len i : ℕ) → State (From (suc i) (i + len)) s
+      → State (From i (i + len)) (closeSpan room g at N len i s)
   close-span len i r =
-      reached-cells (span-end len i)
-      (foldUp-keeps (λ A s. State (Under len i A) s) (fillCell room g at len i) N (λ A s l q. fill-cell len i A q)
-      (reached-cells (span-start len i) r))
+      reached-cells (span-end i (i + len))
+      (foldUp-keeps (λ A s. State (Under i (i + len) A) s) (fillCell room g at len i) N (λ A s l q. fill-cell len i A q)
+      (reached-cells (span-start i (i + len)) r))
 
-  -- The spans of one length: those that end within the line.
-  length-start : (len A i j : ℕ) (φ : Foot) → Derived g (Holds at) A i j φ → Before len 0 A i j → Shorter len A i j
-  length-start len A i j φ d (inl b) = b
-  length-start len A i j φ d (inr (e, l)) = absurd (omega arith)
+  -- The spans of one end: each starts one place before the last.
+  back-start : (e m : ℕ) → m ≤ e → (A i j : ℕ) (φ : Foot) → Derived g (Holds at) A i j φ → From (suc (e - m)) (e - m + suc m) A i j
+      → From (suc e - m) (suc e) A i j
+  back-start e m h A i j φ d (inl b) = inl (omega arith)
+  back-start e m h A i j φ d (inr (q, l)) = inr (omega arith, omega arith)
 
-  length-end : (len A i j : ℕ) (φ : Foot) → Derived g (Holds at) A i j φ → Shorter (suc (suc len)) A i j
-      → Before (suc len) (n - len) A i j
-  length-end len A i j φ d l = let b = derived-bounds n below d in elim (ℕ-discrete j (i + suc len)) [
-    | yes e ↦ inr (e, omega arith)
-    | no e ↦ inl (omega arith)
-  ]
+  back-end : (e m : ℕ) → m ≤ e → (A i j : ℕ) (φ : Foot) → Derived g (Holds at) A i j φ → From (suc e - suc m) (suc e) A i j
+      → From (e - m) (e - m + suc m) A i j
+  back-end e m h A i j φ d (inl b) = inl (omega arith)
+  back-end e m h A i j φ d (inr (q, l)) = inr (omega arith, omega arith)
 
-  close-length : {s : Option (List Record)} (len : ℕ) → State (Shorter (suc len)) s
-      → State (Shorter (suc (suc len))) (closeLength room g at N n len s)
-  close-length len r =
-      reached-cells (length-end len)
-      (foldUp-keeps (λ i s. State (Before (suc len) i) s) (closeSpan room g at N (suc len)) (n - len)
-      (λ i s l q. close-span (suc len) i q) (reached-cells (length-start (suc len)) r))
+  close-back : {s : Option (List Record)} (e m : ℕ) → m < suc e → State (From (suc e - m) (suc e)) s
+      → State (From (suc e - suc m) (suc e)) (closeBack room g at N e m s)
+  close-back e m h r =
+      reached-cells (back-end e m (omega arith)) (close-span (suc m) (e - m) (reached-cells (back-start e m (omega arith)) r))
 
-  -- All lengths: no derived item is shorter than one word, and none is longer than the line.
-  nothing-has : (x : Item) → Cells g at (Shorter 1) x → Has [] x
+  end-start : (e A i j : ℕ) (φ : Foot) → Derived g (Holds at) A i j φ → From (suc e - 0) (suc e) A i j → Ended e A i j
+  end-start e A i j φ d (inl b) = omega arith
+  end-start e A i j φ d (inr (q, l)) = let h = derived-longer d in absurd (omega arith)
+
+  end-end : (e A i j : ℕ) (φ : Foot) → Derived g (Holds at) A i j φ → Ended (suc e) A i j → From (suc e - suc e) (suc e) A i j
+  end-end e A i j φ d l = elim (ℕ-discrete j (suc e)) [ yes q ↦ inr (q, omega arith) | no q ↦ inl (omega arith) ]
+
+  close-end : {s : Option (List Record)} (e : ℕ) → State (Ended e) s → State (Ended (suc e)) (closeEnd room g at N e s)
+  close-end e r =
+      reached-cells (end-end e)
+      (foldUp-keeps (λ m s. State (From (suc e - m) (suc e)) s) (closeBack room g at N e) (suc e)
+      (λ m s l q. close-back e m l q) (reached-cells (end-start e) r))
+
+  -- All ends: no derived item ends at 0, and none past the line.
+  nothing-has : (x : Item) → Cells g at (Ended 0) x → Has [] x
   nothing-has (item A i j φ) (d, l) = let h = derived-longer d in absurd (omega arith)
 
-  build-reached : State (Shorter (suc n)) (build room g at N n)
+  build-reached : State (Ended n) (build room g at N n)
   build-reached =
-      foldUp-keeps (λ len s. State (Shorter (suc len)) s) (closeLength room g at N n) n (λ len s l q. close-length len q)
+      foldUp-keeps (λ e s. State (Ended e) s) (closeEnd room g at N) n (λ e s l q. close-end e q)
       (going (sound-none g at) (omega arith) nothing-has)
 
-  chart-of : {c : List Record} → Sound g at c → ((x : Item) → Cells g at (Shorter (suc n)) x → Has c x) → IsChart g (Holds at) c
+  chart-of : {c : List Record} → Sound g at c → ((x : Item) → Cells g at (Ended n) x → Has c x) → IsChart g (Holds at) c
   chart-of {c} sound has = record { justified = sound .justified; distinct = sound .distinct; complete = all }
     where
       all : (A i j : ℕ) (φ : Foot) → Derived g (Holds at) A i j φ
           → (m : ℕ) × (e : Record) × Stands c m e × (itemOf e ≡ item A i j φ)
       all A i j φ d =
           let b = derived-bounds n below d in
-          let (e, p, q) = in-map itemOf c (has (item A i j φ) (d, omega arith)) in
+          let (e, p, q) = in-map itemOf c (has (item A i j φ) (d, b .1)) in
           let (m, s) = in-stands p in
           (m, e, s, sym q)
 
-  reached-chart : {s : Option (List Record)} {c : List Record} → State (Shorter (suc n)) s → s ≡ some c
+  reached-chart : {s : Option (List Record)} {c : List Record} → State (Ended n) s → s ≡ some c
       → IsChart g (Holds at) c × (length c ≤ room)
   reached-chart (going sound fits has) e =
       subst (λ (c : List Record). IsChart g (Holds at) c × (length c ≤ room)) (some-same e) (chart-of sound has, fits)
@@ -230,7 +246,7 @@ module _ (room N n : ℕ) (g : List Rule) (at : ℕ → ℕ → Bool) (one : One
           let (m, s) = in-stands p in
           items-complete g at n below A i j φ (justified-derived g (Holds at) c (sound .justified) s (sym q))
 
-  reached-none : {s : Option (List Record)} → State (Shorter (suc n)) s → s ≡ none → room < length (items g at n)
+  reached-none : {s : Option (List Record)} → State (Ended n) s → s ≡ none → room < length (items g at n)
   reached-none (going sound fits has) e = absurd (none-some (sym e))
   reached-none (over sound long) e = le-trans long (sound-length sound)
 

@@ -22,7 +22,7 @@ use Rattle.layout.specs.Bytes.{counted}
 use Rattle.grammar.proofs.ListLaws.{eqb-self, in-concatMap, in-only, map-in, stands-in}
 use Rattle.grammar.proofs.StandsLaws.{none-some, some-same, stands-getElem}
 use Rattle.grammar.proofs.ItemTests.{in-choice, among-true}
-use Rattle.chart_model.specs.Build.{foldUp, placesFrom, isOf, isBareOf, places, barePlaces, footIn, footAt, takenFrom, keptFrom, continued, givenFoot, givenFrom, byAction, byRule, ruleAt, acrossSplits, byWord, byRuleOver, byProduction, candidates, addEach, fillCell, closeSpan, closeLength}
+use Rattle.chart_model.specs.Build.{foldUp, placesFrom, isOf, isBareOf, places, barePlaces, footIn, footAt, takenFrom, keptFrom, continued, givenFoot, givenFrom, byAction, byRule, dependentFirst, turned, ruleAt, acrossSplits, byWord, byRuleOver, byProduction, candidates, addEach, fillCell, closeSpan, closeBack, closeEnd}
 use Rattle.chart_model.proofs.BuildLaws.{Has, in-flatUp, in-placesAll, placesAll-in, placesFrom-append, added-cases, addEach-none, in-option, getElem-append, stands-last}
 use Rattle.chart_model.proofs.Candidates.{places-in, in-barePlaces}
 
@@ -117,7 +117,7 @@ module _ (g : List Rule) (at : ℕ → ℕ → Bool) (c : List Record) (A i : �
   of-over (suc (suc len)) p r h =
       let j = i + suc (suc len) in
       let (k, a, b, m) = in-flatUp (ruleAt c A i j p r) (suc i) (j - suc i) h in
-      of-rule k j p r m
+      of-rule (turned (dependentFirst r) (i + j) k) j p r m
 
   of-candidates : {e : Record} (len : ℕ) → List·Memᴰ e (candidates g at c A i len) → Of A i (i + len) e
   of-candidates len h =
@@ -125,7 +125,7 @@ module _ (g : List Rule) (at : ℕ → ℕ → Bool) (c : List Record) (A i : �
       let (r, f, n) = in-option (byRuleOver at c A i len p) (getElem? g p) m in
       of-over len p r n
 
--- So a cell, a span, the spans of a length, and all grow the chart by their cells.
+-- So a cell, a span, the spans of an end, and all grow the chart by their cells.
 pub cell-grown : {c b : List Record} (room : ℕ) (g : List Rule) (at : ℕ → ℕ → Bool) (len i A : ℕ)
     → fillCell room g at len i A (some c) ≡ some b → Grown (IsCell A i (i + len)) c b
 cell-grown {c} room g at len i A q = each-grown room (candidates g at c A i len) (λ r m. of-candidates g at c A i len m) same q
@@ -158,31 +158,30 @@ fold-grown {P} {c} {b} f stays step (suc m) q =
         (grown-wider (λ A i j p. (m, le-refl (suc m), p)) (step m d b (ap (f m) (sym e) ∙ q)))
 
 module _ (room : ℕ) (g : List Rule) (at : ℕ → ℕ → Bool) where
-  -- The nonterminals below m over i to i + len; the spans of `len` words that start below m; the spans of at most m words.
+  -- So it is for a span, and for the spans of an end.
+  pub span-none : (N len i : ℕ) → closeSpan room g at N len i none ≡ none
+  span-none N len i = fold-none (fillCell room g at len i) none 0 N (λ l. refl) refl zero-le
+
+  pub end-none : (N e : ℕ) → closeEnd room g at N e none ≡ none
+  end-none N e = fold-none (closeBack room g at N e) none 0 (suc e) (λ m. span-none N (suc m) (e - m)) refl zero-le
+
+  -- The nonterminals below m over i to i + len; the spans of at most m words that end at e + 1; the spans that end at m or before.
   pub span-grown : {c b : List Record} (len i m : ℕ) → foldUp (fillCell room g at len i) m (some c) ≡ some b
       → Grown (λ A i′ j. (A < m) × (i′ ≡ i) × (j ≡ i + len)) c b
   span-grown len i m q =
       grown-wider (λ A i′ j (l, h, (e, f, k)). (omega arith, f, k))
       (fold-grown (fillCell room g at len i) (λ l. refl) (λ l c b. cell-grown room g at len i l) m q)
 
-  pub length-grown : {c b : List Record} (N len m : ℕ) → foldUp (closeSpan room g at N len) m (some c) ≡ some b
-      → Grown (λ A i j. (i < m) × (j ≡ i + len)) c b
-  length-grown N len m q =
-      grown-wider (λ A i j (l, h, (a, e, f)). (omega arith, omega arith))
-      (fold-grown (closeSpan room g at N len) (λ l. fold-none (fillCell room g at len l) none 0 N (λ l. refl) refl zero-le)
-      (λ l c b. span-grown len l N) m q)
+  pub end-grown : {c b : List Record} (N e m : ℕ) → m ≤ suc e → foldUp (closeBack room g at N e) m (some c) ≡ some b
+      → Grown (λ A i j. (j ≡ suc e) × (e < i + m)) c b
+  end-grown N e m k q =
+      grown-wider (λ A i j (l, h, (a, f, f′)). (omega arith, omega arith))
+      (fold-grown (closeBack room g at N e) (λ l. span-none N (suc l) (e - l)) (λ l c b. span-grown (suc l) (e - l) N) m q)
 
-  pub all-grown : {c b : List Record} (N n m : ℕ) → foldUp (closeLength room g at N n) m (some c) ≡ some b
-      → Grown (λ A i j. j < i + suc m) c b
-  all-grown N n m q =
-      grown-wider (λ A i j (l, h, (a, e)). omega arith)
-      (fold-grown (closeLength room g at N n) length-none (λ l c b. length-grown N (suc l) (n - l)) m q)
-    where
-      span-none : (len i : ℕ) → closeSpan room g at N len i none ≡ none
-      span-none len i = fold-none (fillCell room g at len i) none 0 N (λ l. refl) refl zero-le
-
-      length-none : (len : ℕ) → closeLength room g at N n len none ≡ none
-      length-none len = fold-none (closeSpan room g at N (suc len)) none 0 (n - len) (λ i. span-none (suc len) i) refl zero-le
+  pub all-grown : {c b : List Record} (N m : ℕ) → foldUp (closeEnd room g at N) m (some c) ≡ some b → Grown (λ A i j. j ≤ m) c b
+  all-grown N m q =
+      grown-wider (λ A i j (l, h, (f, a)). omega arith)
+      (fold-grown (closeEnd room g at N) (end-none N) (λ l c b. end-grown N l (suc l) (le-refl (suc l))) m q)
 
 -- The positions of the records that pass a test, where no record that was added passes it.
 grown-test : {P : ℕ → ℕ → ℕ → Type 0} {c b : List Record} (test : Record → Bool) → ((r : Record) → InCell P r → test r ≡ false)

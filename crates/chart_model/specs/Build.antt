@@ -1,7 +1,7 @@
--- What the chart builder computes, over lists. Spans are closed by rising length and then by start, and within a span nonterminal by
--- nonterminal, so that the items of A over i to j, a cell, stand together. proofs/Exact.antt shows that the result is a chart.
+-- What the chart builder computes, over lists. Spans are closed by their end and then from the shortest, and within a span nonterminal
+-- by nonterminal, so that the items of A over i to j, a cell, stand together. proofs/Exact.antt shows that the result is a chart.
 use Prim.Native.Nat.{ℕ, zero, suc, _+_, _-_}
-use mathlib.Core.Bool.{Bool, true, false, _&&_}
+use mathlib.Core.Bool.{Bool, true, false, cond, _&&_}
 use mathlib.Core.List.{List, [], _∷_, _++_, map}
 use mathlib.Core.Option.{Option, none, some}
 use lib.Dec.{eqb, ltb}
@@ -83,9 +83,20 @@ byRule c A i k j p (Spine A′ a [] D (B ∷ [])) =
     elim (eqb A′ A) [ true ↦ concatMap (byAction c a D i k A i j p) (barePlaces c B k j) | false ↦ [] ]
 byRule c A i k j p (Spine A′ a [] D (B ∷ C ∷ after)) = []
 
--- The same at every split of i to j; and the word production of A for the word at i.
+-- Where the dependent stands first, the turns of a rule go through the splits from the right, so that long dependents come first: they
+-- bring most feet.
+abbrev pub dependentFirst : Rule → Bool
+dependentFirst (Lexical A w) = false
+dependentFirst (Spine A a [] D after) = true
+dependentFirst (Spine A a (B ∷ before) D after) = false
+
+-- The split of a turn, where i + j is the sum.
+abbrev pub turned : Bool → ℕ → ℕ → ℕ
+turned back sum m = cond back (sum - m) m
+
+-- The same at the split of turn m, and at every split of i to j; and the word production of A for the word at i.
 abbrev pub ruleAt : List Record → ℕ → ℕ → ℕ → ℕ → Rule → ℕ → List Record
-ruleAt c A i j p r k = byRule c A i k j p r
+ruleAt c A i j p r m = byRule c A i (turned (dependentFirst r) (i + j) m) j p r
 
 abbrev pub acrossSplits : List Record → ℕ → ℕ → ℕ → ℕ → Rule → List Record
 acrossSplits c A i j p r = flatUp (ruleAt c A i j p r) (suc i) (j - suc i)
@@ -123,7 +134,7 @@ abbrev pub addEach : ℕ → List Record → Option (List Record) → Option (Li
 addEach room [] s = s
 addEach room (r ∷ rs) s = addEach room rs (addOne room r s)
 
--- One cell, one span, the spans of one length, and all.
+-- One cell; one span; the span of m + 1 words that ends at e + 1; the spans that end there, from the shortest; and all.
 abbrev pub fillCell : ℕ → List Rule → (ℕ → ℕ → Bool) → ℕ → ℕ → ℕ → Option (List Record) → Option (List Record)
 fillCell room g at len i A none = none
 fillCell room g at len i A (some c) = addEach room (candidates g at c A i len) (some c)
@@ -131,9 +142,12 @@ fillCell room g at len i A (some c) = addEach room (candidates g at c A i len) (
 abbrev pub closeSpan : ℕ → List Rule → (ℕ → ℕ → Bool) → ℕ → ℕ → ℕ → Option (List Record) → Option (List Record)
 closeSpan room g at N len i s = foldUp (fillCell room g at len i) N s
 
-abbrev pub closeLength : ℕ → List Rule → (ℕ → ℕ → Bool) → ℕ → ℕ → ℕ → Option (List Record) → Option (List Record)
-closeLength room g at N n len s = foldUp (closeSpan room g at N (suc len)) (n - len) s
+abbrev pub closeBack : ℕ → List Rule → (ℕ → ℕ → Bool) → ℕ → ℕ → ℕ → Option (List Record) → Option (List Record)
+closeBack room g at N e m s = closeSpan room g at N (suc m) (e - m) s
+
+abbrev pub closeEnd : ℕ → List Rule → (ℕ → ℕ → Bool) → ℕ → ℕ → Option (List Record) → Option (List Record)
+closeEnd room g at N e s = foldUp (closeBack room g at N e) (suc e) s
 
 -- The chart of n words under N nonterminals, if the room holds it.
 abbrev pub build : ℕ → List Rule → (ℕ → ℕ → Bool) → ℕ → ℕ → Option (List Record)
-build room g at N n = foldUp (closeLength room g at N n) n (some [])
+build room g at N n = foldUp (closeEnd room g at N) n (some [])

@@ -1,24 +1,25 @@
 -- `chart::build::close_span` meets its contract. The loop's invariant: the cells of the nonterminals below a are filled as the model's fold
--- fills them. A nonterminal that is passed over has no candidates.
-use Prim.Native.Nat.{_+_, _-_, _≤_}
+-- fills them. The nonterminals that are passed over have no candidates.
+use Prim.Native.Nat.{ℕ, _+_, _-_, _≤_}
 use native.Mathlib.Omega.{arith}
-use mathlib.Core.Option.{some}
-use mathlib.Core.Path.{_≡_, refl, _∙_, ap}
-use mathlib.Core.Logic.{⊎-elim}
+use mathlib.Core.Option.{Option, some}
+use mathlib.Core.List.{List}
+use mathlib.Core.Path.{_≡_, refl, _∙_}
 use lib.ListN.{take, length}
 use borrow.Author.Needs.{needs}
 use Rattle.grammar.specs.Input.{wordIs}
+use Rattle.grammar.specs.Chart.{Record}
 use Rattle.chart_model.specs.Build.{foldUp, fillCell}
 use Rattle.chart.specs.Fill.{Filled, OtherSpan}
 use Rattle.chart.specs.Tables.{grammarIn}
 use Rattle.records.specs.Room.{chartIn}
-use Rattle.chart.proofs.FillSpans.{filled-none, idle-span, idle-turn, turn-set, fresh-turn, cell-grows, fold-then, fold-skip, fold-over, fold-at, filled-eq}
+use Rattle.chart.proofs.FillSpans.{filled-none, idle-span, turn-set, turn-splits, fresh-turn, cell-grows, fold-then, span-pass, fold-over, fold-at}
 use Rattle.chart.proofs.FillLaws.{state-some}
 use Rattle.chart.proofs.build.close_span.Statement.{statement}
 use Rattle.chart.proofs.build.close_span.Tie as tie
 
 abbrev Inv-loop : tie.InvT-loop
-Inv-loop chart₀ marks₀ index₀ covers₀ sets₀ by n symbols room i j rules many words count set a₀ now₀ chart marks index covers sets a now =
+Inv-loop chart₀ marks₀ index₀ covers₀ sets₀ both by n symbols room i j rules many words count set splits a₀ now₀ chart marks index covers sets a now =
     (a ≤ symbols) × (now ≤ room)
     × Filled (grammarIn rules many) n symbols room (OtherSpan i j)
     (foldUp (fillCell room (grammarIn rules many) (wordIs (take n words)) (j - i) i) a (some (chartIn chart₀ count)))
@@ -27,129 +28,145 @@ Inv-loop chart₀ marks₀ index₀ covers₀ sets₀ by n symbols room i j rule
     × (length sets ≡ length sets₀)
 
 abbrev μ-loop : tie.MeasureT-loop
-μ-loop chart₀ marks₀ index₀ covers₀ sets₀ by n symbols room i j rules many words count set a₀ now₀ chart marks index covers sets a now = symbols - a
+μ-loop chart₀ marks₀ index₀ covers₀ sets₀ both by n symbols room i j rules many words count set splits a₀ now₀ chart marks index covers sets a now = symbols - a
+
+-- The model's turns, and where they start.
+module _ (s : tie.Start Inv-loop μ-loop) where
+  abbrev turn : ℕ → Option (List Record) → Option (List Record)
+  turn =
+      fillCell (s .args .room) (grammarIn (s .args .rules .now) (s .args .many)) (wordIs (take (s .args .n) (s .args .words .now)))
+      (s .args .j - s .args .i) (s .args .i)
+
+  abbrev before : Option (List Record)
+  before = some (chartIn (s .args .chart .now) (s .args .count))
+
+-- One cell more.
+module _ (c : tie.After-fill-left Inv-loop μ-loop) where
+  abbrev start : tie.Start Inv-loop μ-loop
+  start = c .before .before .before .before .before .before .before .before .before .before .before .before .before .before .before .before .before .before .before .before
+
+  abbrev here : tie.At-loop Inv-loop μ-loop
+  here = c .before .before .before .before .before .before .before .before .before
+
+  filled : Filled (grammarIn (start .args .rules .now) (start .args .many)) (start .args .n) (start .args .symbols) (start .args .room)
+      (OtherSpan (start .args .i) (start .args .j)) (foldUp (turn start) (here .loop .a + 1) (before start)) (start .args .chart .now)
+      (start .args .count) (c .fill-left .last .0) (c .fill-left .last .1 .0) (c .fill-left .last .1 .1 .0)
+      (c .fill-left .last .1 .1 .1 .0) (c .fill-left .last .1 .1 .1 .1 .0) (c .fill-left .result)
+  filled =
+      let a = start .args in
+      fold-then (turn start) (here .loop .a) (before start) (here .loop .inv .2) (here .loop .inv .1)
+      (cell-grows (a .room) (grammarIn (a .rules .now) (a .many)) (wordIs (take (a .n) (a .words .now))) (a .j - a .i) (a .i))
+      (c .fill-left .ensures) (λ A i j o _ x y. o x y)
 
 span-set-requires : tie.Need-span-set-requires Inv-loop μ-loop
 span-set-requires c κs =
-    let p = c .before .before .before .before .before .before .pre in
-    (p .0 .wordsFit, p .3, p .4, p .0 .sorted .long, p .5)
+    let p = c .before .before .before .before .before .before .before .pre in
+    (p .0 .wordsFit, p .3, p .4, p .0 .sorted .rows, p .8)
 
 same-length : tie.Need-same-length Inv-loop μ-loop
 same-length c = search needs
 
 returns : tie.Need-returns Inv-loop μ-loop
 returns c =
-    let p = c .before .before .before .before .before .before .before .before .pre in
-    filled-none (p .0) (idle-span (c .before .before .before .before .before .before .before .before .args .room) (p .0) (p .2) (c .before .span-set .ensures) (p .3) (p .4) (c .if1 .taken))
+    let s = c .before .before .before .before .before .before .before .before .before in
+    let p = s .pre in
+    let found = c .before .span-set .ensures in
+    (filled-none (p .0) (idle-span (s .args .room) (p .0) (p .2) found (p .3) (p .4) (c .if1 .taken)), found .met .long)
+
+next-left-requires : tie.Need-next-left-requires Inv-loop μ-loop
+next-left-requires c κs = (omega arith, c .before .before .before .before .before .before .before .before .before .pre .0 .symbolsFit)
 
 loop-holds : tie.Need-loop-holds Inv-loop μ-loop
 loop-holds c =
-    let p = c .before .before .before .before .before .before .before .before .pre in
-    (omega arith, p .0 .countFits, filled-none (p .0) refl, refl, refl, refl, refl)
+    let s = c .before .before .before .before .before .before .before .before .before .before in
+    let p = s .pre in (
+      c .next-left .ensures .within,
+      p .0 .countFits,
+      span-pass (s .args .room) (p .0) (p .2) (c .before .before .span-set .ensures) (p .3) (p .4) 0 (c .next-left .result)
+          (c .next-left .ensures) (p .0 .countFits) (filled-none (p .0) refl),
+      refl,
+      refl,
+      refl,
+      refl,
+    )
 
 mul-own : tie.Need-mul-own Inv-loop μ-loop
-mul-own c = omega (arith, c .loop-test .taken, c .before .before .before .before .before .before .before .before .before .before .pre .0 .symbolsFit)
+mul-own c = omega (arith, c .loop-test .taken, c .before .before .before .before .before .before .before .before .before .before .before .before .pre .0 .symbolsFit)
 
 element-copy-out-own : tie.Need-element-copy-out-own Inv-loop μ-loop
-element-copy-out-own c = omega (arith, c .loop-test .taken, c .before .before .before .before .before .before .before .before .before .before .pre .0 .symbolsFit)
+element-copy-out-own c = omega (arith, c .loop-test .taken, c .before .before .before .before .before .before .before .before .before .before .before .before .pre .0 .symbolsFit)
 
-cast-t30 : tie.Need-cast-t30 Inv-loop μ-loop
-cast-t30 c = omega (arith, c .before .before .loop-test .taken, c .before .before .before .before .before .before .before .before .before .before .before .before .pre .0 .symbolsFit)
-
-cast-t31 : tie.Need-cast-t31 Inv-loop μ-loop
-cast-t31 c = omega (arith, c .before .before .before .before .before .before .before .before .before .before .before .before .pre .0 .wordsFit, c .before .before .before .before .before .before .before .before .before .before .before .before .pre .3, c .before .before .before .before .before .before .before .before .before .before .before .before .pre .4)
-
-cast-t32 : tie.Need-cast-t32 Inv-loop μ-loop
-cast-t32 c = omega (arith, c .before .before .before .before .before .before .before .before .before .before .before .before .pre .0 .wordsFit, c .before .before .before .before .before .before .before .before .before .before .before .before .pre .4)
-
-fill-cell-requires : tie.Need-fill-cell-requires Inv-loop μ-loop
-fill-cell-requires c κs =
-    let p = c .before .before .before .before .before .before .before .before .before .before .before .before .before .before .before .before .before .pre in
-    let a = c .before .before .before .before .before .before .before .before .before .before .before .before .before .before .before .before .before .args in
+fill-left-requires : tie.Need-fill-left-requires Inv-loop μ-loop
+fill-left-requires c κs =
+    let s = c .before .before .before .before .before .before .before .before .before .before .before .before .before .before .before .before .before .before .before in
+    let p = s .pre in
+    let a = s .args in
     let l = c .before .before .before .before .before .before .before .before .loop in
-    let inv = l .inv in (
+    let inv = l .inv in
+    let taken = c .before .before .before .before .before .before .before .loop-test .taken in
+    let state = state-some (a .room) (l .now) (l .chart) (inv .2 .model) (inv .1) in (
       inv .2 .ready (inv .1),
-      refl,
       p .1,
       p .2,
-      c .before .before .before .before .before .before .before .loop-test .taken,
+      taken,
       p .3,
       p .4,
       p .5,
       fresh-turn (chartIn (a .chart .now) (a .count)) (a .room) (grammarIn (a .rules .now) (a .many)) (wordIs (take (a .n) (a .words .now)))
-          (a .i) (a .j) (l .a) (p .6 (l .a)) (state-some (a .room) (l .now) (l .chart) (inv .2 .model) (inv .1)),
-      turn-set (a .room) (p .0) (p .2) (c .before .before .before .before .before .before .before .before .before .before .span-set .ensures) (p .3) (p .4) (l .a) (c .before .before .before .before .before .before .before .loop-test .taken)
-          (state-some (a .room) (l .now) (l .chart) (inv .2 .model) (inv .1)),
+          (a .i) (a .j) (l .a) (p .6 (l .a)) state,
+      turn-set (a .room) (p .0) (p .2) (c .before .before .before .before .before .before .before .before .before .before .before .span-set .ensures) (p .3) (p .4) (l .a) state (l .a) taken,
       p .7,
+      turn-splits (a .room) (wordIs (take (a .n) (a .words .now))) (p .0) (c .before .before .before .before .before .before .before .before .before .before .before .span-set .ensures .met) (p .3) (p .4) (l .a) state,
     )
 
 same-length-2 : tie.Need-same-length-2 Inv-loop μ-loop
-same-length-2 c = c .before .before .before .before .before .before .before .before .before .before .before .fill-cell .kept .0 ∙ c .before .before .before .before .before .before .before .before .before .before .before .before .before .before .before .before .before .before .before .before .loop .inv .2 .sameRoom
+same-length-2 c = c .before .before .before .before .before .before .before .before .before .before .before .fill-left .kept .0 ∙ c .before .before .before .before .before .before .before .before .before .before .before .before .before .before .before .before .before .before .before .before .loop .inv .2 .sameRoom
 
 same-length-3 : tie.Need-same-length-3 Inv-loop μ-loop
-same-length-3 c = c .before .before .before .before .before .before .before .before .before .before .before .fill-cell .kept .1 .0 ∙ c .before .before .before .before .before .before .before .before .before .before .before .before .before .before .before .before .before .before .before .before .loop .inv .3
+same-length-3 c = c .before .before .before .before .before .before .before .before .before .before .before .fill-left .kept .1 .0 ∙ c .before .before .before .before .before .before .before .before .before .before .before .before .before .before .before .before .before .before .before .before .loop .inv .3
 
 same-length-4 : tie.Need-same-length-4 Inv-loop μ-loop
-same-length-4 c = c .before .before .before .before .before .before .before .before .before .before .before .fill-cell .kept .1 .1 .0 ∙ c .before .before .before .before .before .before .before .before .before .before .before .before .before .before .before .before .before .before .before .before .loop .inv .4
+same-length-4 c = c .before .before .before .before .before .before .before .before .before .before .before .fill-left .kept .1 .1 .0 ∙ c .before .before .before .before .before .before .before .before .before .before .before .before .before .before .before .before .before .before .before .before .loop .inv .4
 
 same-length-5 : tie.Need-same-length-5 Inv-loop μ-loop
-same-length-5 c = c .before .before .before .before .before .before .before .before .before .before .before .fill-cell .kept .1 .1 .1 .0 ∙ c .before .before .before .before .before .before .before .before .before .before .before .before .before .before .before .before .before .before .before .before .loop .inv .5
+same-length-5 c = c .before .before .before .before .before .before .before .before .before .before .before .fill-left .kept .1 .1 .1 .0 ∙ c .before .before .before .before .before .before .before .before .before .before .before .before .before .before .before .before .before .before .before .before .loop .inv .5
 
 same-length-6 : tie.Need-same-length-6 Inv-loop μ-loop
-same-length-6 c = c .before .before .before .before .before .before .before .before .before .before .before .fill-cell .kept .1 .1 .1 .1 .0 ∙ c .before .before .before .before .before .before .before .before .before .before .before .before .before .before .before .before .before .before .before .before .loop .inv .6
+same-length-6 c = c .before .before .before .before .before .before .before .before .before .before .before .fill-left .kept .1 .1 .1 .1 .0 ∙ c .before .before .before .before .before .before .before .before .before .before .before .before .before .before .before .before .before .before .before .before .loop .inv .6
 
 returns-2 : tie.Need-returns-2 Inv-loop μ-loop
 returns-2 c =
-    let a = c .before .before .before .before .before .before .before .before .before .before .before .before .before .before .before .before .before .before .before .before .before .before .before .before .before .before .before .before .before .args in
-    let l = c .before .before .before .before .before .before .before .before .before .before .before .before .before .before .before .before .before .before .before .before .loop in
-    let g = grammarIn (a .rules .now) (a .many) in
-    let at = wordIs (take (a .n) (a .words .now)) in
-    let f = fillCell (a .room) g at (a .j - a .i) (a .i) in
-    let s = some (chartIn (a .chart .now) (a .count)) in
-    fold-over f (l .a + 1) (a .symbols) s (λ k. refl)
-    (fold-then f (l .a) s (l .inv .2) (l .inv .1) (cell-grows (a .room) g at (a .j - a .i) (a .i)) (c .before .before .before .before .before .before .before .before .before .before .before .fill-cell .ensures)
-    (λ A i j o _ x y. o x y)) (c .if3 .taken) (omega (arith, c .before .before .before .before .before .before .before .before .before .before .before .before .before .before .before .before .before .before .before .loop-test .taken))
+    let s = c .before .before .before .before .before .before .before .before .before .before .before .before .before .before .before .before .before .before .before .before .before .before .before .before .before .before .before .before .before .before .before in (
+      fold-over (turn s) (c .before .before .before .before .before .before .before .before .before .before .before .before .before .before .before .before .before .before .before .before .loop .a + 1) (s .args .symbols) (before s) (λ k. refl) (filled (c .before .before .before .before .before .before .before .before .before .before .before)) (c .if2 .taken)
+          (omega (arith, c .before .before .before .before .before .before .before .before .before .before .before .before .before .before .before .before .before .before .before .loop-test .taken)),
+      c .before .before .before .before .before .before .before .before .before .before .before .before .before .before .before .before .before .before .before .before .before .before .before .span-set .ensures .met .long,
+    )
 
-add-a : tie.Need-add-a Inv-loop μ-loop
-add-a c = omega (arith, c .before .before .loop-test .taken, c .before .before .before .before .before .before .before .before .before .before .before .before .pre .0 .symbolsFit)
+add-next-left : tie.Need-add-next-left Inv-loop μ-loop
+add-next-left c = omega (arith, c .before .before .before .before .before .before .before .before .before .before .before .before .before .before .before .before .before .before .before .loop-test .taken, c .before .before .before .before .before .before .before .before .before .before .before .before .before .before .before .before .before .before .before .before .before .before .before .before .before .before .before .before .before .before .before .pre .0 .symbolsFit)
+
+next-left-requires-2 : tie.Need-next-left-requires-2 Inv-loop μ-loop
+next-left-requires-2 c κs = (omega (arith, c .before .before .before .before .before .before .before .before .before .before .before .before .before .before .before .before .before .before .before .loop-test .taken), c .before .before .before .before .before .before .before .before .before .before .before .before .before .before .before .before .before .before .before .before .before .before .before .before .before .before .before .before .before .before .before .pre .0 .symbolsFit)
 
 loop-less : tie.Need-loop-less Inv-loop μ-loop
-loop-less c = omega (arith, c .before .before .loop-test .taken)
+loop-less c = omega (arith, c .before .before .before .before .before .before .before .before .before .before .before .before .before .before .before .before .before .before .before .before .loop-test .taken, c .next-left2 .ensures .later)
 
 loop-again : tie.Need-loop-again Inv-loop μ-loop
 loop-again c =
-    let p = c .before .before .before .before .before .before .before .before .before .before .before .before .pre in
-    let a = c .before .before .before .before .before .before .before .before .before .before .before .before .args in
-    let l = c .before .before .before .loop in
-    let inv = l .inv in
-    let g = grammarIn (a .rules .now) (a .many) in
-    let at = wordIs (take (a .n) (a .words .now)) in
-    let f = fillCell (a .room) g at (a .j - a .i) (a .i) in
-    let s = some (chartIn (a .chart .now) (a .count)) in
-    ⊎-elim
-    (λ w. (
-      omega (arith, c .before .before .loop-test .taken),
-      omega (arith, w .17 .left, w .23),
-      filled-eq (w .18) (w .19) (w .20) (w .21) (w .22) (w .23)
-          (fold-then f (l .a) s (inv .2) (inv .1) (cell-grows (a .room) g at (a .j - a .i) (a .i)) (w .6 .ensures) (λ A i j o _ x y. o x y)),
-      ap length (w .19) ∙ (w .6 .kept .1 .0 ∙ inv .3),
-      ap length (w .20) ∙ (w .6 .kept .1 .1 .0 ∙ inv .4),
-      ap length (w .21) ∙ (w .6 .kept .1 .1 .1 .0 ∙ inv .5),
-      ap length (w .22) ∙ (w .6 .kept .1 .1 .1 .1 .0 ∙ inv .6),
-    ))
-    (λ w. (
-      omega (arith, c .before .before .loop-test .taken),
-      omega (arith, inv .1, w .6),
-      filled-eq (w .1) (w .2) (w .3) (w .4) (w .5) (w .6)
-          (fold-skip f (l .a) s (inv .2) (inv .1)
-          (idle-turn (a .room) (p .0) (p .2) (c .before .before .before .before .before .span-set .ensures) (p .3) (p .4) (l .a) (c .before .before .loop-test .taken)
-          (state-some (a .room) (l .now) (l .chart) (inv .2 .model) (inv .1)) (w .0 .left))),
-      ap length (w .2) ∙ inv .3,
-      ap length (w .3) ∙ inv .4,
-      ap length (w .4) ∙ inv .5,
-      ap length (w .5) ∙ inv .6,
-    ))
-    (c .if2 .came)
+    let s = c .before .before .before .before .before .before .before .before .before .before .before .before .before .before .before .before .before .before .before .before .before .before .before .before .before .before .before .before .before .before .before .before in
+    let p = s .pre in
+    let l = c .before .before .before .before .before .before .before .before .before .before .before .before .before .before .before .before .before .before .before .before .before .loop in
+    let k = c .before .before .before .before .before .before .before .before .before .before .before .before .fill-left .kept in
+    let fits = c .before .if2 .left in (
+      c .next-left2 .ensures .within,
+      fits,
+      span-pass (s .args .room) (p .0) (p .2) (c .before .before .before .before .before .before .before .before .before .before .before .before .before .before .before .before .before .before .before .before .before .before .before .before .span-set .ensures) (p .3) (p .4) (l .a + 1) (c .next-left2 .result)
+          (c .next-left2 .ensures) fits (filled (c .before .before .before .before .before .before .before .before .before .before .before .before)),
+      k .1 .0 ∙ l .inv .3,
+      k .1 .1 .0 ∙ l .inv .4,
+      k .1 .1 .1 .0 ∙ l .inv .5,
+      k .1 .1 .1 .1 .0 ∙ l .inv .6,
+    )
 
 same-length-7 : tie.Need-same-length-7 Inv-loop μ-loop
 same-length-7 c = c .before .loop .inv .2 .sameRoom
@@ -168,10 +185,9 @@ same-length-11 c = c .before .loop .inv .6
 
 returns-3 : tie.Need-returns-3 Inv-loop μ-loop
 returns-3 c =
-    let a = c .before .before .before .before .before .before .before .before .before .before .args in
+    let s = c .before .before .before .before .before .before .before .before .before .before .before .before in
     let l = c .before .loop in
-    fold-at (fillCell (a .room) (grammarIn (a .rules .now) (a .many)) (wordIs (take (a .n) (a .words .now))) (a .j - a .i) (a .i)) (l .a)
-    (a .symbols) (some (chartIn (a .chart .now) (a .count))) (omega (arith, l .inv .0, c .loop-test .left)) (l .inv .2)
+    (fold-at (turn s) (l .a) (s .args .symbols) (before s) (omega (arith, l .inv .0, c .loop-test .left)) (l .inv .2), c .before .before .before .before .span-set .ensures .met .long)
 
 pub close-span-spec : {M : Type 1} → statement M
 close-span-spec =
@@ -182,20 +198,19 @@ close-span-spec =
     span-set-requires
     same-length
     returns
+    next-left-requires
     loop-holds
     mul-own
     element-copy-out-own
-    cast-t30
-    cast-t31
-    cast-t32
-    fill-cell-requires
+    fill-left-requires
     same-length-2
     same-length-3
     same-length-4
     same-length-5
     same-length-6
     returns-2
-    add-a
+    add-next-left
+    next-left-requires-2
     loop-less
     loop-again
     same-length-7

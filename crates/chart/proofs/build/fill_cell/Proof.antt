@@ -7,7 +7,7 @@ use borrow.Author.Needs.{needs}
 use Rattle.grammar.specs.Input.{wordIs}
 use Rattle.chart_model.specs.Build.{candidates}
 use Rattle.records.specs.Index.{Indexed}
-use Rattle.chart.specs.Tables.{grammarIn, Sorted, CellSet}
+use Rattle.chart.specs.Tables.{grammarIn, Splits, CellSet}
 use Rattle.records.specs.Room.{chartIn}
 use Rattle.records.specs.Cover.{Covering, Advanced}
 use Rattle.records.proofs.CoverLaws.{start-covering}
@@ -18,7 +18,7 @@ use Rattle.chart.proofs.build.fill_cell.Tie as tie
 
 fill-items-requires : tie.Need-fill-items-requires
 fill-items-requires c κs =
-    let s = c .before .before .before .before .before .before .before .before .before .before in
+    let s = c .before .before .before .before .before .before .before .before .before in
     let a = s .args in
     let p = s .pre in
     let b = p .0 in
@@ -32,7 +32,7 @@ fill-items-requires c κs =
       p .7,
       subst (λ (k : ℕ). CellSet g (wordIs (take (a .z .words) (a .words .now))) (chartIn (a .chart .now) k) (a .c .left) (a .c .from)
           (a .c .to - a .c .from) (a .set)) (sym (p .1)) (p .9),
-      subst (λ (k : ℕ). Sorted g (a .z .words) (chartIn (a .chart .now) k) (a .sets .now)) (sym (p .1)) (b .sorted),
+      subst (λ (k : ℕ). Splits g (chartIn (a .chart .now) k) (a .c .from) (a .c .to) (a .both .now) (a .splits)) (sym (p .1)) (p .11),
       p .10,
       subst (λ (k : ℕ). Covering (a .z .words) (a .z .symbols) (a .c .left) (a .c .from) (a .c .to) (chartIn (a .chart .now) k)
           (chartIn (a .chart .now) (a .count)) (a .covers .now)) (sym (p .1)) (start-covering (a .c .left) (a .c .from) (a .c .to) (b .covered)),
@@ -41,13 +41,13 @@ fill-items-requires c κs =
 
 -- What they are of the chart as it was.
 items : (c : tie.After-fill-items)
-    → let a = c .before .before .before .before .before .before .before .before .before .before .before .args in
+    → let a = c .before .before .before .before .before .before .before .before .before .before .args in
     Advanced (a .z .words) (a .z .symbols) (a .z .room) (a .c .left) (a .c .from) (a .c .to) (a .count)
     (candidates (grammarIn (a .rules .now) (a .many)) (wordIs (take (a .z .words) (a .words .now))) (chartIn (a .chart .now) (a .count))
     (a .c .left) (a .c .from) (a .c .to - a .c .from)) (a .chart .now) (a .marks .now) (a .count) (c .fill-items .last .0)
     (c .fill-items .last .1 .0) (c .fill-items .last .1 .1 .1 .0) (c .fill-items .result)
 items c =
-    let s = c .before .before .before .before .before .before .before .before .before .before .before in
+    let s = c .before .before .before .before .before .before .before .before .before .before in
     let a = s .args in
     subst
     (λ (k : ℕ). Advanced (a .z .words) (a .z .symbols) (a .z .room) (a .c .left) (a .c .from) (a .c .to) k
@@ -68,11 +68,11 @@ same-length-3 c = search needs
 same-length-4 : tie.Need-same-length-4
 same-length-4 c = search needs
 
-same-length-5 : tie.Need-same-length-5
-same-length-5 c = search needs
-
 returns : tie.Need-returns
 returns c = let e = items (c .before .before .before .before .before .before .before .before) .added in over-filled (e .sameRoom) (e .model) (c .if1 .taken)
+
+same-length-5 : tie.Need-same-length-5
+same-length-5 c = search needs
 
 same-length-6 : tie.Need-same-length-6
 same-length-6 c = search needs
@@ -83,22 +83,16 @@ same-length-7 c = search needs
 same-length-8 : tie.Need-same-length-8
 same-length-8 c = search needs
 
-same-length-9 : tie.Need-same-length-9
-same-length-9 c = search needs
-
-same-length-10 : tie.Need-same-length-10
-same-length-10 c = search needs
-
 returns-2 : tie.Need-returns-2
 returns-2 c =
-    let s = c .before .before .before .before .before .before .before .before .before .before .before .before .before .before .before .before .before .before .before .before in
+    let s = c .before .before .before .before .before .before .before .before .before .before .before .before .before .before .before .before .before .before .before in
     let a = s .args in
     same-filled (a .c .left) (a .c .from) (a .c .to) (s .pre .0) (s .pre .4, s .pre .5, s .pre .6) (s .pre .8) (items (c .before .before .before .before .before .before .before .before .before)) (c .if2 .taken)
 
 finish-requires : tie.Need-finish-requires
 finish-requires c κs =
     let a = items (c .before .before .before .before .before .before .before .before .before .before .before) .added in
-    (a .works (c .before .before .before .if1 .left), omega (arith, a .grown, c .before .before .before .before .before .before .before .before .before .before .before .before .before .before .before .before .before .before .before .before .before .before .pre .1))
+    (a .works (c .before .before .before .if1 .left), omega (arith, a .grown, c .before .before .before .before .before .before .before .before .before .before .before .before .before .before .before .before .before .before .before .before .before .pre .1))
 
 wide-requires : tie.Need-wide-requires
 wide-requires c κs = search needs
@@ -111,7 +105,7 @@ wide-requires-3 c κs = search needs
 
 cell-at-requires : tie.Need-cell-at-requires
 cell-at-requires c κs =
-    let p = c .before .before .before .before .before .before .before .before .before .before .before .before .before .before .before .before .before .before .before .before .before .before .before .before .before .before .before .before .pre in (
+    let p = c .before .before .before .before .before .before .before .before .before .before .before .before .before .before .before .before .before .before .before .before .before .before .before .before .before .before .before .pre in (
       p .0 .wordsFit,
       p .0 .symbolsFit,
       omega (arith, p .4, c .before .before .wide .ensures .0),
@@ -121,15 +115,21 @@ cell-at-requires c κs =
 
 put-range-requires : tie.Need-put-range-requires
 put-range-requires c κs =
-    let p = c .before .before .before .before .before .before .before .before .before .before .before .before .before .before .before .before .before .before .before .before .before .before .before .before .before .before .before .before .before .before .pre in
+    let p = c .before .before .before .before .before .before .before .before .before .before .before .before .before .before .before .before .before .before .before .before .before .before .before .before .before .before .before .before .before .pre in
     let a = items (c .before .before .before .before .before .before .before .before .before .before .before .before .before .before .before .before .before .before .before) .added in
     let r = range-small (c .before .before .before .before .before .before .before .finish .ensures) (omega (arith, a .grown, p .1)) (omega (arith, c .before .before .before .before .before .before .before .before .before .before .before .if1 .left, p .0 .roomSmall)) in
     (omega (arith, c .before .cell-at .ensures .1, p .0 .indexed .long), r .0, r .1, r .2)
 
 note-requires : tie.Need-note-requires
 note-requires c κs =
-    let p = c .before .before .before .before .before .before .before .before .before .before .before .before .before .before .before .before .before .before .before .before .before .before .before .before .before .before .before .before .before .before .before .before .before .before .pre in
-    (p .0 .wordsFit, p .5, p .6, omega (arith, p .4, p .0 .symbolsFit), p .0 .sorted .long)
+    let p = c .before .before .before .before .before .before .before .before .before .before .before .before .before .before .before .before .before .before .before .before .before .before .before .before .before .before .before .before .before .before .before .before .before .pre in
+    (p .0 .wordsFit, p .5, p .6, omega (arith, p .4, p .0 .symbolsFit), p .0 .sorted .rows)
+
+same-length-9 : tie.Need-same-length-9
+same-length-9 c = search needs
+
+same-length-10 : tie.Need-same-length-10
+same-length-10 c = search needs
 
 same-length-11 : tie.Need-same-length-11
 same-length-11 c = search needs
@@ -140,15 +140,9 @@ same-length-12 c = search needs
 same-length-13 : tie.Need-same-length-13
 same-length-13 c = search needs
 
-same-length-14 : tie.Need-same-length-14
-same-length-14 c = search needs
-
-same-length-15 : tie.Need-same-length-15
-same-length-15 c = search needs
-
 returns-3 : tie.Need-returns-3
 returns-3 c =
-    let s = c .before .before .before .before .before .before .before .before .before .before .before .before .before .before .before .before .before .before .before .before .before .before .before .before .before .before .before .before .before .before .before .before .before .before .before .before .before in
+    let s = c .before .before .before .before .before .before .before .before .before .before .before .before .before .before .before .before .before .before .before .before .before .before .before .before .before .before .before .before .before .before .before .before .before .before .before .before in
     let a = s .args in
     let p = s .pre in
     let e = items (c .before .before .before .before .before .before .before .before .before .before .before .before .before .before .before .before .before .before .before .before .before .before .before .before .before .before) in
@@ -170,13 +164,11 @@ fill-cell-spec =
     same-length-2
     same-length-3
     same-length-4
-    same-length-5
     returns
+    same-length-5
     same-length-6
     same-length-7
     same-length-8
-    same-length-9
-    same-length-10
     returns-2
     finish-requires
     wide-requires
@@ -185,9 +177,9 @@ fill-cell-spec =
     cell-at-requires
     put-range-requires
     note-requires
+    same-length-9
+    same-length-10
     same-length-11
     same-length-12
     same-length-13
-    same-length-14
-    same-length-15
     returns-3)

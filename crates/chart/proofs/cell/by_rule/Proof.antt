@@ -49,7 +49,7 @@ returns : tie.Need-returns
 returns c =
     let call = c .before .before .before .before in
     let ends = c .before .before .before .before .before .before .before .before .before .before in
-    let s = c .before .before .before .before .before .before .before .before .before .before .before .before .before .before .before .before .before in
+    let s = c .before .before .before .before .before .before .before .before .before .before .before .before .before .before .before .before in
     let a = s .args in
     let from = ends .before .wide in
     advanced-kept (a .z .base) (s .pre .10)
@@ -62,7 +62,7 @@ returns c =
 
 across-splits-requires : tie.Need-across-splits-requires
 across-splits-requires c κs =
-    let p = c .before .before .before .before .before .before .before .before .before .before .before .pre in
+    let p = c .before .before .before .before .before .before .before .before .before .before .pre in
     (p .0, p .1, p .2, p .3, p .4, p .5, p .6, p .7, p .8, p .10, p .11)
 
 same-length-3 : tie.Need-same-length-3
@@ -78,7 +78,7 @@ returns-2 : tie.Need-returns-2
 returns-2 c =
     let call = c .before .before .before .before .before .before in
     let ends = c .before .before .before .before .before .before .before .before .before .before .before in
-    let s = c .before .before .before .before .before .before .before .before .before .before .before .before .before .before .before .before .before .before in
+    let s = c .before .before .before .before .before .before .before .before .before .before .before .before .before .before .before .before .before in
     let a = s .args in
     advanced-as
     (over-splits (chartIn (a .chart .now) (a .z .base)) (a .c .left) (a .c .from) (wordIs (take (a .z .words) (a .words .now))) (a .c .to)

@@ -1,7 +1,7 @@
 -- `rules::decode_all` meets its contract. The loop's invariant: the first m rules are packed, and the others are padding.
 use Prim.Native.Nat.{_≤_, _-_}
 use native.Mathlib.Omega.{arith}
-use mathlib.Core.Path.{_≡_, _∙_}
+use mathlib.Core.Path.{_≡_, sym, _∙_, subst}
 use Rattle.chart.specs.Built.{DecodedAll}
 use Rattle.chart.proofs.BuiltLaws.{decoded-none, decoded-more, decoded-as, fields-rule}
 use Rattle.chart.proofs.rules.decode_all.Statement.{statement}
@@ -14,22 +14,24 @@ abbrev μ-loop : tie.MeasureT-loop
 μ-loop card many rules₀ m₀ rules m = many - m
 
 loop-holds : tie.Need-loop-holds Inv-loop μ-loop
-loop-holds c = (omega arith, decoded-none _)
+loop-holds c =
+    let s = c .before in
+    (omega arith, subst (DecodedAll (s .args .card .now) 0) (sym (s .pre .1)) (decoded-none (s .args .card .now)))
 
 fields-of-requires : tie.Need-fields-of-requires Inv-loop μ-loop
-fields-of-requires c κs = omega (arith, c .before .before .before .pre)
+fields-of-requires c κs = omega (arith, c .before .before .before .pre .0)
 
 pack-requires : tie.Need-pack-requires Inv-loop μ-loop
 pack-requires c κs = tt
 
 mul-rules : tie.Need-mul-rules Inv-loop μ-loop
-mul-rules c = omega (arith, c .before .before .before .before .before .pre)
+mul-rules c = omega (arith, c .before .before .before .before .before .pre .0)
 
-array-write-rules : tie.Need-array-write-rules Inv-loop μ-loop
-array-write-rules c = omega (arith, c .before .before .before .before .before .pre)
+element-write-rules : tie.Need-element-write-rules Inv-loop μ-loop
+element-write-rules c = omega (arith, c .before .before .before .before .before .pre .0)
 
 add-m : tie.Need-add-m Inv-loop μ-loop
-add-m c = omega (arith, c .before .before .before .before .before .pre)
+add-m c = omega (arith, c .before .before .before .before .before .pre .0)
 
 loop-less : tie.Need-loop-less Inv-loop μ-loop
 loop-less c = omega arith
@@ -39,7 +41,7 @@ loop-again c =
     let l = c .before .before .before .loop in
     let s = c .before .before .before .before .before in (
       omega arith,
-      decoded-more (s .args .card .now) (l .m) (l .rules) (c .pack .result) (omega (arith, s .pre))
+      decoded-more (s .args .card .now) (l .m) (l .rules) (c .pack .result) (omega (arith, s .pre .0))
           (c .pack .ensures ∙ fields-rule (c .before .fields-of .ensures)) (l .inv .1),
     )
 
@@ -53,4 +55,4 @@ returns c =
 pub decode-all-spec : {M : Type 1} → statement M
 decode-all-spec =
     tie.close
-    (tie.spec Inv-loop μ-loop loop-holds fields-of-requires pack-requires mul-rules array-write-rules add-m loop-less loop-again returns)
+    (tie.spec Inv-loop μ-loop loop-holds fields-of-requires pack-requires mul-rules element-write-rules add-m loop-less loop-again returns)

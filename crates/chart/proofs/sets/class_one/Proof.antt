@@ -1,4 +1,4 @@
--- `sets::class_one` meets its contract: each arm's places are below 80, and the stores of an arm are those of the law for its kind of rule.
+-- `sets::class_one` meets its contract: each arm's places are below 112, and the stores of an arm are those of the law for its kind of rule.
 use native.Mathlib.Omega.{arith}
 use borrow.Author.Needs.{needs}
 use Rattle.chart.proofs.SetLaws.{word-fits, first-fits, last-fits, word-joined, first-joined, last-joined}
@@ -17,27 +17,24 @@ put-requires c κs =
     let s = r .before .before in
     (omega (arith, word-fits (r .rule .given .1) (s .pre .2), c .wide .ensures), s .pre .1)
 
-enum-known-rule-2 : tie.Need-enum-known-rule-2
-enum-known-rule-2 c = search needs
-
 wide-requires-2 : tie.Need-wide-requires-2
 wide-requires-2 c κs = search needs
-
-put-requires-2 : tie.Need-put-requires-2
-put-requires-2 c κs =
-    let r = c .before .before .before in
-    let s = r .before .before in
-    (omega (arith, first-fits (r .rule2 .given .1) (s .pre .2), c .wide2 .ensures), s .pre .1)
-
-wide-requires-3 : tie.Need-wide-requires-3
-wide-requires-3 c κs = search needs
 
 add-put : tie.Need-add-put
 add-put c = search needs
 
+put-requires-2 : tie.Need-put-requires-2
+put-requires-2 c κs = search needs
+
+enum-known-rule-2 : tie.Need-enum-known-rule-2
+enum-known-rule-2 c = search needs
+
+wide-requires-3 : tie.Need-wide-requires-3
+wide-requires-3 c κs = search needs
+
 put-requires-3 : tie.Need-put-requires-3
 put-requires-3 c κs =
-    let r = c .before .before .before .before .before .before in
+    let r = c .before .before .before in
     let s = r .before .before in
     (omega (arith, first-fits (r .rule2 .given .1) (s .pre .2), c .wide3 .ensures), s .pre .1)
 
@@ -49,31 +46,31 @@ add-put-2 c = search needs
 
 put-requires-4 : tie.Need-put-requires-4
 put-requires-4 c κs =
-    let r = c .before .before .before .before .before .before .before .before .before in
+    let r = c .before .before .before .before .before .before in
     let s = r .before .before in
     (omega (arith, first-fits (r .rule2 .given .1) (s .pre .2), c .wide4 .ensures), s .pre .1)
-
-enum-known-rule-3 : tie.Need-enum-known-rule-3
-enum-known-rule-3 c = search needs
 
 wide-requires-5 : tie.Need-wide-requires-5
 wide-requires-5 c κs = search needs
 
+add-put-3 : tie.Need-add-put-3
+add-put-3 c = search needs
+
 put-requires-5 : tie.Need-put-requires-5
 put-requires-5 c κs =
-    let r = c .before .before .before in
+    let r = c .before .before .before .before .before .before .before .before .before in
     let s = r .before .before in
-    (omega (arith, last-fits (r .rule3 .given .1) (s .pre .2), c .wide5 .ensures), s .pre .1)
+    (omega (arith, first-fits (r .rule2 .given .1) (s .pre .2), c .wide5 .ensures), s .pre .1)
+
+enum-known-rule-3 : tie.Need-enum-known-rule-3
+enum-known-rule-3 c = search needs
 
 wide-requires-6 : tie.Need-wide-requires-6
 wide-requires-6 c κs = search needs
 
-add-put-3 : tie.Need-add-put-3
-add-put-3 c = search needs
-
 put-requires-6 : tie.Need-put-requires-6
 put-requires-6 c κs =
-    let r = c .before .before .before .before .before .before in
+    let r = c .before .before .before in
     let s = r .before .before in
     (omega (arith, last-fits (r .rule3 .given .1) (s .pre .2), c .wide6 .ensures), s .pre .1)
 
@@ -85,15 +82,29 @@ add-put-4 c = search needs
 
 put-requires-7 : tie.Need-put-requires-7
 put-requires-7 c κs =
-    let r = c .before .before .before .before .before .before .before .before .before in
+    let r = c .before .before .before .before .before .before in
     let s = r .before .before in
     (omega (arith, last-fits (r .rule3 .given .1) (s .pre .2), c .wide7 .ensures), s .pre .1)
 
+wide-requires-8 : tie.Need-wide-requires-8
+wide-requires-8 c κs = search needs
+
+add-put-5 : tie.Need-add-put-5
+add-put-5 c = search needs
+
+put-requires-8 : tie.Need-put-requires-8
+put-requires-8 c κs =
+    let r = c .before .before .before .before .before .before .before .before .before in
+    let s = r .before .before in
+    (omega (arith, last-fits (r .rule3 .given .1) (s .pre .2), c .wide8 .ensures), s .pre .1)
+
 returns : tie.Need-returns
 returns c =
-    let r = c .before .before .before .before in
+    let one = c .before .before .before in
+    let r = one .before .before .before .before in
     let s = r .before .before in
-    word-joined (s .args .p) (s .pre .2) (s .pre .0) (r .rule .given .1) (c .before .wide .ensures .0) (c .put .ensures)
+    word-joined (s .args .p) (s .pre .2) (s .pre .0) (r .rule .given .1) (one .before .wide .ensures .0) (c .before .wide2 .ensures .0)
+    (one .put .ensures) (c .put2 .ensures)
 
 returns-2 : tie.Need-returns-2
 returns-2 c =
@@ -101,8 +112,8 @@ returns-2 c =
     let one = two .before .before .before in
     let r = one .before .before .before .before in
     let s = r .before .before in
-    first-joined (s .args .p) (s .pre .2) (s .pre .0) (r .rule2 .given .1) (one .before .wide2 .ensures .0) (two .before .wide3 .ensures .0)
-    (c .before .wide4 .ensures .0) (one .put2 .ensures) (two .put3 .ensures) (c .put4 .ensures)
+    first-joined (s .args .p) (s .pre .2) (s .pre .0) (r .rule2 .given .1) (one .before .wide3 .ensures .0) (two .before .wide4 .ensures .0)
+    (c .before .wide5 .ensures .0) (one .put3 .ensures) (two .put4 .ensures) (c .put5 .ensures)
 
 returns-3 : tie.Need-returns-3
 returns-3 c =
@@ -110,8 +121,8 @@ returns-3 c =
     let one = two .before .before .before in
     let r = one .before .before .before .before in
     let s = r .before .before in
-    last-joined (s .args .p) (s .pre .2) (s .pre .0) (r .rule3 .given .1) (one .before .wide5 .ensures .0) (two .before .wide6 .ensures .0)
-    (c .before .wide7 .ensures .0) (one .put5 .ensures) (two .put6 .ensures) (c .put7 .ensures)
+    last-joined (s .args .p) (s .pre .2) (s .pre .0) (r .rule3 .given .1) (one .before .wide6 .ensures .0) (two .before .wide7 .ensures .0)
+    (c .before .wide8 .ensures .0) (one .put6 .ensures) (two .put7 .ensures) (c .put8 .ensures)
 
 pub class-one-spec : {M : Type 1} → statement M
 class-one-spec =
@@ -120,24 +131,27 @@ class-one-spec =
     enum-known-rule
     wide-requires
     put-requires
-    enum-known-rule-2
     wide-requires-2
-    put-requires-2
-    wide-requires-3
     add-put
+    put-requires-2
+    enum-known-rule-2
+    wide-requires-3
     put-requires-3
     wide-requires-4
     add-put-2
     put-requires-4
-    enum-known-rule-3
     wide-requires-5
-    put-requires-5
-    wide-requires-6
     add-put-3
+    put-requires-5
+    enum-known-rule-3
+    wide-requires-6
     put-requires-6
     wide-requires-7
     add-put-4
     put-requires-7
+    wide-requires-8
+    add-put-5
+    put-requires-8
     returns
     returns-2
     returns-3)

@@ -1,23 +1,27 @@
 -- `sets::classify` meets its contract. The loop's invariant: the sets have what the first p rules ask for. A turn is one rule more.
-use Prim.Native.Nat.{_≤_, _-_}
+use Prim.Native.Nat.{ℕ, _≤_, _-_}
 use native.Mathlib.Omega.{arith}
-use mathlib.Core.Path.{_≡_, refl, _∙_, subst}
-use lib.ListN.{length}
-use Rattle.grammar.specs.Rewriting.{Rule}
+use mathlib.Core.Path.{_≡_, _∙_, ap}
+use mathlib.Core.List.{List}
+use lib.ListN.{length, getD}
 use Rattle.chart.specs.Tables.{grammarIn}
-use Rattle.chart.specs.Fill.{Classified, Joined}
+use Rattle.chart.specs.Fill.{Classified}
 use Rattle.chart.proofs.SetLaws.{zero-at, rule-fits, classified-none, classified-more}
 use Rattle.chart.proofs.sets.classify.Statement.{statement}
 use Rattle.chart.proofs.sets.classify.Tie as tie
 
 abbrev Inv-loop : tie.InvT-loop
-Inv-loop rules many by₀ p₀ by p = (p ≤ many) × (length by ≡ 80) × Classified (grammarIn rules p) by
+Inv-loop rules many by₀ p₀ by p = (p ≤ many) × (length by ≡ 112) × Classified (grammarIn rules p) by
 
 abbrev μ-loop : tie.MeasureT-loop
 μ-loop rules many by₀ p₀ by p = many - p
 
 loop-holds : tie.Need-loop-holds Inv-loop μ-loop
-loop-holds c = (omega arith, refl, classified-none _ (zero-at 80))
+loop-holds c = (
+  omega arith,
+  ap length (c .pre .2),
+  classified-none _ (λ s. ap (λ (l : List ℕ). getD l s 0) (c .pre .2) ∙ zero-at 112 s),
+)
 
 rule-at-requires : tie.Need-rule-at-requires Inv-loop μ-loop
 rule-at-requires c κs = omega (arith, c .before .before .pre .0)

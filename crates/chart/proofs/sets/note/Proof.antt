@@ -1,15 +1,92 @@
--- `sets::note` meets its contract: two stores into the sets of the span, of what the arms of the test have put together.
+-- `sets::note` meets its contract: where the cell's first set is not empty it goes into that of the span, and the end into the row of its
+-- start; then the second set and the column alike.
+use Prim.Native.Nat.{ℕ, _+_, _*_, _%_, _^_, _≤_, _<_}
+use native.Mathlib.Nat.{mul-le-mul}
 use native.Mathlib.Omega.{arith}
+use mathlib.Core.Path.{_≡_, refl, _∙_, ap, ap₂, subst}
 use mathlib.Core.Logic.{⊎-elim}
+use mathlib.Core.List.{List}
 use borrow.Author.Needs.{needs}
-use lib.ListN.{length-set}
-use Rattle.chart.proofs.SetLaws.{CellSets, sets-plain, sets-bare, noted}
-use Rattle.records.proofs.index.span_at.Reads as span-at-reads
-use Rattle.records.proofs.record.wide.Reads as wide-reads
-use Rattle.chart.proofs.sets.note.Lts as lts
-use Rattle.chart.proofs.sets.note.Reads as reads
+use lib.ListN.{length, length-set}
+use Rattle.records.specs.Index.{spanAt}
+use Rattle.chart.specs.Tables.{rowAt, columnAt}
+use Rattle.chart.proofs.SetLaws.{orInto}
+use Rattle.chart.proofs.RowLaws.{rows-at, Put, put-none, first-put, second-put, CellSets, sets-plain, sets-bare, noted}
 use Rattle.chart.proofs.sets.note.Statement.{statement}
 use Rattle.chart.proofs.sets.note.Tie as tie
+
+-- The cell's two sets, where the arms have met.
+cell-sets : (c : tie.Joined1)
+    → let s = c .before .before .before .before .before .before .before .before .before in
+    CellSets (s .args .by .now) (s .args .c .left) (s .args .r .bare) (c .if1 .first) (c .if1 .second)
+cell-sets c =
+    let w = c .before .before .before .before .before .before .before in
+    let a = w .before .before .args in
+    subst (λ (x : ℕ). CellSets (a .by .now) x (a .r .bare) (c .if1 .first) (c .if1 .second)) (w .wide .ensures .0)
+    (⊎-elim (λ h. sets-bare (a .by .now) (w .wide .result) (a .r .bare) (h .3) (h .4))
+    (λ h. sets-plain (a .by .now) (w .wide .result) (a .r .bare) (h .0 .left) (h .1) (h .2)) (c .if1 .came))
+
+-- The row is in the table, as is its place while it is computed.
+wide4-row : (c : tie.After-wide4) → let a = c .before .before .before .before .before .before .before .before .before .before .args in
+    (a .n * (a .n + 1) + 2 * c .wide4 .result + 1 < length (a .sets .now)) × (8 * length (a .sets .now) < 2 ^ 64)
+wide4-row c =
+    let s = c .before .before .before .before .before .before .before .before .before .before in
+    (omega (arith, rows-at (s .args .n), s .pre .4 .long, s .pre .1, s .pre .2, c .wide4 .ensures .0), omega (arith, s .good .0 .0))
+
+-- The four places.
+module _ (c : tie.After-wide5) where
+  abbrev start : tie.Start
+  start = c .before .before .before .before .before .before .before .before .before .before .before
+
+  abbrev at : tie.After-span-at
+  at = c .before .before .before .before .before .before
+
+  span-is : at .span-at .result ≡ spanAt (start .args .c .from) (start .args .c .to)
+  span-is = at .span-at .ensures .0 ∙ ap₂ spanAt (at .before .before .wide2 .ensures .0) (at .before .wide3 .ensures .0)
+
+  row-is : start .args .n * (start .args .n + 1) + 2 * c .before .wide4 .result ≡ rowAt (start .args .n) (start .args .c .from)
+  row-is = omega (arith, rows-at (start .args .n), c .before .wide4 .ensures .0)
+
+  column-is : start .args .n * (start .args .n + 1) + 2 * c .wide5 .result + 1 ≡ columnAt (start .args .n) (start .args .c .to)
+  column-is = omega (arith, rows-at (start .args .n), c .wide5 .ensures .0)
+
+  span-there : 2 * at .span-at .result + 1 < length (start .args .sets .now)
+  span-there = omega (arith, at .span-at .ensures .1, start .pre .4 .long)
+
+  row-there : (start .args .n * (start .args .n + 1) + 2 * c .before .wide4 .result < length (start .args .sets .now))
+      × (8 * length (start .args .sets .now) < 2 ^ 64)
+  row-there = (omega (arith, wide4-row (c .before)), wide4-row (c .before) .1)
+
+  column-there : (start .args .n * (start .args .n + 1) + 2 * c .wide5 .result + 1 < length (start .args .sets .now))
+      × (8 * length (start .args .sets .now) < 2 ^ 64)
+  column-there = (omega (arith, column-is, start .pre .4 .long, start .pre .2), wide4-row (c .before) .1)
+
+-- After the first set, and after the second.
+mid : (c : tie.Joined2) → let a = start (c .before) .args in
+    Put (a .n) (2 * spanAt (a .c .from) (a .c .to)) (c .before .before .before .if1 .first) (a .sets .now) (c .if2 .sets)
+mid c =
+    let s = start (c .before) in
+    let a = s .args in
+    ⊎-elim
+    (λ h. first-put (a .n) (a .c .from) (a .c .to) (s .pre .4) (s .pre .1) (s .pre .2) (s .pre .0) (ap (λ (x : ℕ). 2 * x) (span-is (c .before)))
+    (row-is (c .before)) (h .5))
+    (λ h. put-none (s .pre .4) (h .0 .left) (h .1)) (c .if2 .came)
+
+abbrev stored : tie.After-struct-known3 → List ℕ
+stored c =
+    let w = c .before .before .before .before .before .before in
+    let a = start w .args in
+    orInto (orInto (c .before .before .before .before .before .if2 .sets) (2 * at w .span-at .result + 1) (w .before .before .if1 .second))
+    (a .n * (a .n + 1) + 2 * w .wide5 .result + 1) ((1 * 2 ^ a .c .from) % 2 ^ 64)
+
+last : (c : tie.After-struct-known3) → let w = c .before .before .before .before .before .before in let a = start w .args in
+    Put (a .n) (2 * spanAt (a .c .from) (a .c .to) + 1) (w .before .before .if1 .second) (c .before .before .before .before .before .if2 .sets) (stored c)
+last c =
+    let w = c .before .before .before .before .before .before in
+    let s = start w in
+    let a = s .args in
+    second-put (a .n) (a .c .from) (a .c .to) (mid (c .before .before .before .before .before) .rows) (s .pre .1) (s .pre .2) (s .pre .0)
+    (ap (λ (x : ℕ). 2 * x + 1) (span-is w)) (column-is w) refl
 
 wide-requires : tie.Need-wide-requires
 wide-requires c κs = search needs
@@ -62,6 +139,36 @@ mul-second-2 c = search needs
 element-copy-out-second-2 : tie.Need-element-copy-out-second-2
 element-copy-out-second-2 c = search needs
 
+add-rows : tie.Need-add-rows
+add-rows c = search needs
+
+mul-rows : tie.Need-mul-rows
+mul-rows c =
+    let n = c .before .before .before .before .before .before .before .before .before .pre .0 in
+    let m : c .before .before .before .before .before .before .before .before .before .args .n + 1 ≤ 25 = omega (arith, n) in
+    omega (arith, mul-le-mul n m)
+
+wide-requires-4 : tie.Need-wide-requires-4
+wide-requires-4 c κs = search needs
+
+mul-row : tie.Need-mul-row
+mul-row c = search needs
+
+add-row : tie.Need-add-row
+add-row c = omega (arith, wide4-row c)
+
+wide-requires-5 : tie.Need-wide-requires-5
+wide-requires-5 c κs = search needs
+
+mul-column : tie.Need-mul-column
+mul-column c = search needs
+
+add-column : tie.Need-add-column
+add-column c = omega (arith, column-there c)
+
+add-column-2 : tie.Need-add-column-2
+add-column-2 c = omega (arith, column-there c)
+
 mul-sets : tie.Need-mul-sets
 mul-sets c = search needs
 
@@ -74,50 +181,79 @@ mul-sets-2 c = search needs
 slice-write-sets : tie.Need-slice-write-sets
 slice-write-sets c = search needs
 
+mul-sets-3 : tie.Need-mul-sets-3
+mul-sets-3 c = omega (arith, row-there (c .before .before .before))
+
+slice-read-sets-2 : tie.Need-slice-read-sets-2
+slice-read-sets-2 c = simp length-set (row-there (c .before .before .before .before) .0)
+
+cast-sets : tie.Need-cast-sets
+cast-sets c = search needs
+
+shl-sets : tie.Need-shl-sets
+shl-sets c = search needs
+
+mul-sets-4 : tie.Need-mul-sets-4
+mul-sets-4 c = omega (arith, row-there (c .before .before .before .before .before))
+
+slice-write-sets-2 : tie.Need-slice-write-sets-2
+slice-write-sets-2 c = simp length-set (row-there (c .before .before .before .before .before) .0)
+
 add-sets : tie.Need-add-sets
 add-sets c = search needs
 
-mul-sets-3 : tie.Need-mul-sets-3
-mul-sets-3 c = search needs
+mul-sets-5 : tie.Need-mul-sets-5
+mul-sets-5 c = search needs
 
-slice-read-sets-2 : tie.Need-slice-read-sets-2
-slice-read-sets-2 c =
-    let at = c .before .before .before .before .before .before .before in
-    simp length-set (omega (arith, at .before .before .before .before .before .pre, at .span-at .ensures))
+slice-read-sets-3 : tie.Need-slice-read-sets-3
+slice-read-sets-3 c = omega (arith, mid (c .before .before) .sameLength, span-there (c .before .before .before))
 
 add-sets-2 : tie.Need-add-sets-2
 add-sets-2 c = search needs
 
-mul-sets-4 : tie.Need-mul-sets-4
-mul-sets-4 c = search needs
+mul-sets-6 : tie.Need-mul-sets-6
+mul-sets-6 c = search needs
 
-slice-write-sets-2 : tie.Need-slice-write-sets-2
-slice-write-sets-2 c =
-    let at = c .before .before .before .before .before .before .before .before in
-    simp length-set (omega (arith, at .before .before .before .before .before .pre, at .span-at .ensures))
+slice-write-sets-3 : tie.Need-slice-write-sets-3
+slice-write-sets-3 c = omega (arith, mid (c .before .before .before) .sameLength, span-there (c .before .before .before .before))
+
+mul-sets-7 : tie.Need-mul-sets-7
+mul-sets-7 c = omega (arith, column-there (c .before .before .before .before))
+
+slice-read-sets-4 : tie.Need-slice-read-sets-4
+slice-read-sets-4 c = simp length-set (omega (arith, mid (c .before .before .before .before) .sameLength, column-there (c .before .before .before .before .before)))
+
+cast-sets-2 : tie.Need-cast-sets-2
+cast-sets-2 c = search needs
+
+shl-sets-2 : tie.Need-shl-sets-2
+shl-sets-2 c = search needs
+
+mul-sets-8 : tie.Need-mul-sets-8
+mul-sets-8 c = omega (arith, column-there (c .before .before .before .before .before .before))
+
+slice-write-sets-4 : tie.Need-slice-write-sets-4
+slice-write-sets-4 c = simp length-set (omega (arith, mid (c .before .before .before .before .before) .sameLength, column-there (c .before .before .before .before .before .before)))
 
 same-length : tie.Need-same-length
-same-length c = search needs
-
--- The cell's two sets, where the arms have met.
-cell-sets : (c : lts.Joined1 (wide-reads.Asked, wide-reads.Learnt, span-at-reads.Asked, span-at-reads.Learnt) reads.Pre reads.Post)
-    → let w = c .before .before .before .before .before .before .before in
-    CellSets (w .before .before .args .by .now) (w .wide .result) (w .before .before .args .r .bare) (c .if1 .first) (c .if1 .second)
-cell-sets c =
-    let w = c .before .before .before .before .before .before .before in
-    let a = w .before .before .args in
-    ⊎-elim (λ h. sets-bare (a .by .now) (w .wide .result) (a .r .bare) (h .3) (h .4))
-    (λ h. sets-plain (a .by .now) (w .wide .result) (a .r .bare) (h .0 .left) (h .1) (h .2)) (c .if1 .came)
+same-length c = last c .sameLength ∙ mid (c .before .before .before .before .before) .sameLength
 
 returns : tie.Need-returns
 returns c =
-    let met = c .before .before .before .before in
-    let at = met .before .before .before .before in
-    let s = at .before .before .before .before .before in
-    let a = s .args in
-    noted (a .n) (a .by .now) (a .c .left) (a .c .from) (a .c .to) (a .r .bare) (a .sets .now) (at .span-at .result) (met .if1 .first)
-    (met .if1 .second) (at .before .before .before .wide .ensures .0) (at .before .before .wide2 .ensures .0) (at .before .wide3 .ensures .0)
-    (at .span-at .ensures .0) (omega (arith, s .pre, at .span-at .ensures)) (cell-sets met)
+    let j = c .before .before .before .before .before in
+    let s = start (j .before) in
+    noted (s .args .by .now) (s .args .c .left) (s .args .c .from) (s .args .c .to) (s .args .r .bare) (s .pre .1) (s .pre .2) (mid j) (last c)
+    (cell-sets (j .before .before .before))
+
+same-length-2 : tie.Need-same-length-2
+same-length-2 c = mid (c .before) .sameLength
+
+returns-2 : tie.Need-returns-2
+returns-2 c =
+    let j = c .before in
+    let s = start (j .before) in
+    noted (s .args .by .now) (s .args .c .left) (s .args .c .from) (s .args .c .to) (s .args .r .bare) (s .pre .1) (s .pre .2) (mid j)
+    (put-none (mid j .rows) (c .if3 .left) refl) (cell-sets (j .before .before .before))
 
 pub note-spec : {M : Type 1} → statement M
 note-spec =
@@ -140,15 +276,38 @@ note-spec =
     add-second-2
     mul-second-2
     element-copy-out-second-2
+    add-rows
+    mul-rows
+    wide-requires-4
+    mul-row
+    add-row
+    wide-requires-5
+    mul-column
+    add-column
+    add-column-2
     mul-sets
     slice-read-sets
     mul-sets-2
     slice-write-sets
-    add-sets
     mul-sets-3
     slice-read-sets-2
-    add-sets-2
+    cast-sets
+    shl-sets
     mul-sets-4
     slice-write-sets-2
+    add-sets
+    mul-sets-5
+    slice-read-sets-3
+    add-sets-2
+    mul-sets-6
+    slice-write-sets-3
+    mul-sets-7
+    slice-read-sets-4
+    cast-sets-2
+    shl-sets-2
+    mul-sets-8
+    slice-write-sets-4
     same-length
-    returns)
+    returns
+    same-length-2
+    returns-2)
