@@ -1,12 +1,12 @@
 -- Letters: bytes above the space, so each fits a line and a number's byte; and runs of them, taken byte by byte and one after another.
 use Prim.Native.Nat.{ℕ, zero, suc, _+_, _-_, _≤_, _<_}
 use native.Mathlib.Omega.{arith}
-use mathlib.Core.Path.{_≡_, refl, sym, _∙_, ap}
+use mathlib.Core.Path.{_≡_, refl, sym, _∙_}
 use mathlib.Core.Bool.{Bool, true, false, _&&_, _||_, false≢true}
 use mathlib.Core.List.{List, [], _∷_, _++_}
 use lib.Dec.{leb, lit<}
-use lib.ListN.{length, take, drop, length-take, length-drop, take-append-drop}
-use lib.Seq.{drop-cons, take-suc, take-add, drop-drop, getD-drop}
+use lib.ListN.{length, drop, length-take, length-drop, take-append-drop}
+use lib.Seq.{take-suc, take-add, drop-drop, getD-drop}
 use borrow.Author.Tests.{leb-true, ne-eqb}
 use Rattle.layout.specs.Bytes.{byteAt, isLetter, allBytes}
 use Rattle.layout.specs.Line.{space, isLineByte}
@@ -80,14 +80,6 @@ part-rest line start stop a =
 -- Runs of letters.
 pub letters-none : {line : List ℕ} {at : ℕ} → at ≤ length line → Letters line at at
 letters-none {line} {at} h = record { after = omega arith; within = h; letters = rw (part-none line at) }
-
-pub letters-first : {line : List ℕ} {at stop : ℕ} → Letters line at stop → at < stop → isLetter (byteAt line at) ≡ true
-letters-first {line} {at} {stop} s h =
-    let n = stop - (at + 1) in
-    let e : stop - at ≡ suc n = omega arith in
-    let split : part line at stop ≡ byteAt line at ∷ take n (drop (suc at) line) =
-    rw e (ap (take (suc n)) (drop-cons line at 0 (omega (arith, s .within)))) in
-    both (isLetter (byteAt line at)) _ (ap (allBytes isLetter) (sym split) ∙ s .letters) .0
 
 pub letters-then : {line : List ℕ} {at i stop : ℕ} → Letters line at i → Letters line i stop → Letters line at stop
 letters-then {line} {at} {i} {stop} a b =

@@ -1,23 +1,22 @@
 -- Packing letters: each new one counts 256 times as much as the one before, so what is packed is the number of the run, below 2 ^ 56
--- for up to 7 letters; and what the packed runs of a word say of its two numbers.
+-- for up to 7 letters; and what the first run of a word says of its key.
 use Prim.Native.Nat.{ℕ, suc, _+_, _-_, _*_, _^_, _≤_, _<_}
 use native.Mathlib.Nat.{pow-le-pow-right, pow-succ'}
-use native.Mathlib.Decide.{ℕ-discrete}
 use native.Mathlib.Omega.{arith}
-use mathlib.Core.Path.{_≡_, refl, sym, _∙_, ap}
-use mathlib.Core.Bool.{true, false, false≢true}
-use mathlib.Core.List.{List, [], _++_}
+use mathlib.Core.Path.{_≡_, _∙_, ap}
+use mathlib.Core.Bool.{true, false}
+use mathlib.Core.List.{List}
 use lib.Dec.{lit<}
-use lib.ListN.{length, take, drop, drop-of-length-le}
-use lib.Seq.{take-all, take-at, drop-at}
+use lib.ListN.{length, take}
+use lib.Seq.{take-all, take-at}
 use borrow.Author.Tests.{le-leb, lt-leb}
 use Rattle.layout.specs.Bytes.{byteAt, isLetter}
 use Rattle.card.specs.Numbers.{numberOf}
 use Rattle.card.proofs.NumberLaws.{number-below, number-append}
 use Rattle.line.specs.Words.{part, Letters, NoLetter, PastLetters}
-use Rattle.line.specs.Packed.{lowOf, highOf, RunOf, WordOf}
+use Rattle.line.specs.Packed.{RunOf, WordOf}
 use Rattle.line.specs.declared.Run.{Run}
-use Rattle.line.proofs.LetterLaws.{letters-bytes, letters-none, letters-first, letters-more, letters-then}
+use Rattle.line.proofs.LetterLaws.{letters-bytes, letters-none, letters-more, letters-then}
 use Rattle.line.proofs.LetterLaws.{part-length, part-none, part-more, part-then}
 
 few-scale : (k : ℕ) → k ≤ 7 → 256 ^ k ≤ 2 ^ 56
@@ -85,71 +84,47 @@ module _ {line : List ℕ} {at most i packed scale : ℕ} (s : Packing line at m
 pub run-below : {line : List ℕ} {at most : ℕ} {r : Run} → RunOf line at most r → most ≤ 7 → r .packed < 2 ^ 56
 run-below r m = omega (arith, r .packed, letters-below (r .taken) (omega (arith, r .few)))
 
--- The two numbers of a word, by its first 7 letters and the others; and of a word too long for an entry.
-module _ (word run : List ℕ) {p : ℕ} (packed : p ≡ numberOf run) (few : length word ≤ 11) where
-  low-is : {n : ℕ} → n ≡ length word → take 7 word ≡ run → 256 * p + n ≡ lowOf word
-  low-is size e = rw (le-leb (length word) 11 few, e, packed, size) (omega arith)
+-- A run of at most 7 letters and the whole word that it starts: the run has the word's first 7 letters, or all.
+pub record Begins (line : List ℕ) (at : ℕ) (run : Run) (end : ℕ) : Type 0 where
+  pub past : PastLetters line at end
+  pub first : take 7 (part line at end) ≡ part line at (run .end)
+  pub packed : run .packed ≡ numberOf (part line at (run .end))
 
-  high-is : drop 7 word ≡ run → p ≡ highOf word
-  high-is e = rw (le-leb (length word) 11 few, e) packed
+module _ {line : List ℕ} {at : ℕ} {run : Run} (r : RunOf line at 7 run) where
+  pub begins-short : (run .end - at ≡ 7 → ⊥) → Begins line at run (run .end)
+  begins-short n =
+      let word = part line at (run .end) in
+      record {
+        past = record { taken = r .taken; stops = r .stops (omega (arith, r .few, r .taken .after)) };
+        first = take-all 7 word (omega (arith, part-length line at (run .end) (r .taken .within), r .few));
+        packed = r .packed;
+      }
 
-low-none : (word : List ℕ) → 11 < length word → 0 ≡ lowOf word
-low-none word h = rw (lt-leb (length word) 11 h)
+  pub begins-long : {end : ℕ} → run .end - at ≡ 7 → PastLetters line (run .end) end → Begins line at run end
+  begins-long {end} full p =
+      let head = part line at (run .end) in
+      let tail = part line (run .end) end in
+      let seven : length head ≡ 7 = part-length line at (run .end) (r .taken .within) ∙ full in
+      record {
+        past = record { taken = letters-then (r .taken) (p .taken); stops = p .stops };
+        first =
+            ap (take 7) (part-then line at (run .end) end (r .taken .after) (p .taken .after)) ∙ take-at head tail 7 seven;
+        packed = r .packed;
+      }
 
-high-none : (word : List ℕ) → 11 < length word → 0 ≡ highOf word
-high-none word h = rw (lt-leb (length word) 11 h)
-
--- A word of fewer than 7 letters.
-pub short-word : {line : List ℕ} {at : ℕ} {r : Run} → RunOf line at 7 r → (r .end - at ≡ 7 → ⊥)
-    → WordOf line at (record { end = r .end; low = 256 * r .packed + (r .end - at); high = 0 })
-short-word {line} {at} {r} s n =
-    let word = part line at (r .end) in
-    let size : length word ≡ r .end - at = part-length line at (r .end) (s .taken .within) in
-    let few : length word ≤ 7 = omega (arith, s .few) in
-    record {
-      past = record { taken = s .taken; stops = s .stops (omega (arith, s .few, s .taken .after)) };
-      low = low-is word word (s .packed) (omega arith) (sym size) (take-all 7 word few);
-      high = high-is word [] refl (omega arith) (drop-of-length-le word {i = 7} few);
-    }
-
--- A word that starts with 7 letters: its second run ends where the word does, unless it is too long.
-module _ {line : List ℕ} {at end : ℕ} {first second : Run} (f : RunOf line at 7 first) (full : first .end ≡ at + 7)
-    (s : RunOf line (first .end) 4 second) (p : PastLetters line (second .end) end) where
-  whole : PastLetters line at end
-  whole = record { taken = letters-then (f .taken) (letters-then (s .taken) (p .taken)); stops = p .stops }
-
+-- The word's key, which is 0 where no entry has room for the word.
+module _ {line : List ℕ} {at end : ℕ} {run : Run} (b : Begins line at run end) where
   word-size : length (part line at end) ≡ end - at
-  word-size = part-length line at end (whole .taken .within)
+  word-size = part-length line at end (b .past .taken .within)
 
-  pub too-long : 11 < end - at → WordOf line at (record { end = end; low = 0; high = 0 })
-  too-long h =
-      let word = part line at end in
-      let long : 11 < length word = omega (arith, word-size) in
-      record { past = whole; low = low-none word long; high = high-none word long }
+  pub word-too-long : 11 < end - at → WordOf line at (record { end = end; key = 0 })
+  word-too-long h =
+      record { past = b .past; key = rw (lt-leb (length (part line at end)) 11 (omega (arith, word-size))) }
 
-  module _ (h : end - at ≤ 11) where
-    same-end : second .end ≡ end
-    same-end =
-        elim (ℕ-discrete (second .end) end) [
-          | yes e ↦ e
-          | no n ↦
-              let more : second .end < end = omega (arith, p .taken .after) in
-              absurd
-              (false≢true
-              (sym (s .stops (omega (arith, full)) (omega (arith, p .taken .within))) ∙ letters-first (p .taken) more))
-        ]
-
-    pub long-word : WordOf line at (record { end = end; low = 256 * first .packed + (end - at); high = second .packed })
-    long-word =
-        let word = part line at end in
-        let head = part line at (first .end) in
-        let tail = part line (first .end) (second .end) in
-        let split : word ≡ head ++ tail =
-        rw (sym same-end) (part-then line at (first .end) (second .end) (f .taken .after) (s .taken .after)) in
-        let seven : length head ≡ 7 = omega (arith, part-length line at (first .end) (f .taken .within), full) in
-        let few : length word ≤ 11 = omega (arith, word-size) in
-        record {
-          past = whole;
-          low = low-is word head (f .packed) few (sym word-size) (ap (take 7) split ∙ take-at head tail 7 seven);
-          high = high-is word tail (s .packed) few (ap (drop 7) split ∙ drop-at head tail 7 seven);
-        }
+  pub word-fits : end - at ≤ 11 → WordOf line at (record { end = end; key = 256 * run .packed + (end - at) })
+  word-fits h =
+      let few : length (part line at end) ≤ 11 = omega (arith, word-size) in
+      record {
+        past = b .past;
+        key = rw (le-leb (length (part line at end)) 11 few, b .first, b .packed, word-size) (omega arith);
+      }

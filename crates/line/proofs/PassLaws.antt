@@ -17,7 +17,7 @@ use Rattle.line.specs.declared.Accepted.{Accepted}
 use Rattle.line.specs.Words.{WordStarts}
 use Rattle.line.specs.Accepted.{wordsNumber, Verdict, Accepts}
 use Rattle.line.proofs.CardLaws.{WordTable, word-table}
-use Rattle.line.proofs.KeyLaws.{number-below}
+use Rattle.line.proofs.LookupLaws.{number-below}
 use Rattle.line.proofs.RefusalLaws.{line-decides}
 use Rattle.line.proofs.WordLaws.{WordEnds, no-bytes, Counted, counted-none, counted-more, counted-all}
 use Rattle.line.proofs.NumberLaws.{numbers, Numbering, numbering-on, known-all, numbered-all}

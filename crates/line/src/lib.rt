@@ -1,18 +1,18 @@
 // A line, accepted or refused: its bytes, its words and their numbers on the card (document 01, "Line and rewriting", and the shift
-// leader's refusals 22, 21, 23 and 24). One pass over the line cuts, tests and packs its words, which are looked up as numbers.
+// leader's refusals 22, 21, 23 and 24). One pass over the line cuts, tests and packs its words, and looks each one up.
 use card::Card;
 use card::bytes::eight;
-use card::bytes::four;
 use card::bytes::is_letter;
 use card::bytes::wide;
 use card::card_number;
-ghost use Prim.Native.Nat.{_+_, _≤_};
+ghost use Prim.Native.Nat.{_≤_};
 ghost use mathlib.Core.Path.{_≡_};
 ghost use lib.ListN.{length};
 ghost use Rattle.layout.specs.Card.{cardNumber};
+ghost use Rattle.layout.specs.Line.{numberOfWord};
 ghost use Rattle.line.specs.Words.{WordStarts, PastLetters};
-ghost use Rattle.line.specs.Packed.{RunOf, WordOf};
-ghost use Rattle.line.specs.Lookup.{lookupFrom, numberOfKey};
+ghost use Rattle.line.specs.Packed.{keyOf, RunOf, WordOf};
+ghost use Rattle.line.specs.Lookup.{lookupFrom};
 ghost use Rattle.line.specs.Accepted.{Refused, Verdict, Accepts};
 
 // The most words that a line may have.
@@ -93,33 +93,11 @@ fn past_letters(line: &[u8], at: usize) -> usize
     end
 }
 
-// A word: where it ends, and the two numbers that its entry on a card would have, `low` of the first 8 bytes and `high` of the last 4.
+// A word: where it ends, and its key, the number of the first 8 bytes that its entry on a card would have. No entry has the key 0, which a
+// word too long for one gets.
 struct Word {
     end: usize,
-    low: u64,
-    high: u64,
-}
-
-// A word that starts with the 7 letters of `first`. No entry has the low number 0, which a word too long for one gets.
-fn long_word(line: &[u8], at: usize, first: Run) -> Word
-    requires { ⌜ RunOf (now line) at 7 first ⌝ }
-    requires { ⌜ first .end ≡ at + 7 ⌝ }
-    ensures { λ r. ⌜ WordOf (now (line .entry)) at r ⌝ }
-{
-    let second = letters(line, first.end, 4);
-    let end = past_letters(line, second.end);
-    if 11 < end - at {
-        return Word {
-            end,
-            low: 0,
-            high: 0,
-        };
-    }
-    Word {
-        end,
-        low: 256 * first.packed + ((end - at) as u64),
-        high: second.packed,
-    }
+    key: u64,
 }
 
 // The word at a place; empty where no letter stands.
@@ -128,35 +106,46 @@ fn word_at(line: &[u8], at: usize) -> Word
     ensures { λ r. ⌜ WordOf (now (line .entry)) at r ⌝ }
 {
     let first = letters(line, at, 7);
-    let size = first.end - at;
-    if size == 7 {
-        return long_word(line, at, first);
+    let mut end = first.end;
+    if end - at == 7 {
+        end = past_letters(line, end);
+    }
+    if 11 < end - at {
+        return Word { end, key: 0 };
     }
     Word {
-        end: first.end,
-        low: 256 * first.packed + (size as u64),
-        high: 0,
+        end,
+        key: 256 * first.packed + (end - at) as u64,
     }
 }
 
-// The position of the entry that has the word's two numbers.
-fn look_up(card: &[u8], word: Word) -> Lookup
+// The position of the entry that equals the word byte by byte. The length and the first 7 letters are compared at once, as the key; the
+// letters after them one by one. `next` steps on before that, so that a mismatch only has to go on.
+fn look_up(card: &[u8], word: &[u8], key: u64) -> Lookup
     requires { ⌜ cardNumber (now card) ≡ 0 ⌝ }
-    ensures { λ r. ⌜ lookupFrom r ≡ numberOfKey (now (card .entry)) (word .low) (word .high) ⌝ }
+    requires { ⌜ key ≡ keyOf (now word) ⌝ }
+    ensures { λ r. ⌜ lookupFrom r ≡ numberOfWord (now (card .entry)) (now (word .entry)) ⌝ }
 {
     let words = wide(card[5]);
     let mut next = 0;
     let at = 'entry: loop {
         if next == words {
-            break 'entry words;
+            break words;
         }
-        let entry = Card::WORD_TABLE + Card::ENTRY * next;
-        if eight(card, entry) == word.low {
-            if four(card, entry + 8) == word.high {
-                break 'entry next;
-            }
-        }
+        let here = next;
         next += 1;
+        let entry = Card::WORD_TABLE + Card::ENTRY * here;
+        if eight(card, entry) != key {
+            continue 'entry;
+        }
+        let mut i = 7;
+        while i < word.len() {
+            if card[entry + 1 + i] != word[i] {
+                continue 'entry;
+            }
+            i += 1;
+        }
+        break here;
     };
     if at == words {
         return Lookup::Missing;
@@ -213,7 +202,7 @@ fn numbered(card: &[u8], line: &[u8]) -> Accepted
             }
         }
         if count < MOST_WORDS {
-            let found = look_up(card, word);
+            let found = look_up(card, &line[at..end], word.key);
             match found {
                 Lookup::At(v) => words[count] = v as u8,
                 Lookup::Missing => known = false,

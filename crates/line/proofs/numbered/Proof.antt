@@ -6,14 +6,11 @@ use mathlib.Core.Logic.{⊎-elim}
 use mathlib.Core.Path.{_≡_, sym, _∙_, ap, subst₂}
 use mathlib.Core.Bool.{Bool}
 use mathlib.Core.List.{List}
-use mathlib.Core.Option.{some}
 use borrow.Author.Needs.{needs}
 use lib.ListN.{length}
 use Rattle.layout.specs.Card.{cardNumber}
-use Rattle.layout.specs.Line.{numberOfWord}
 use Rattle.line.specs.Words.{part}
 use Rattle.line.specs.Lookup.{lookupFrom}
-use Rattle.line.proofs.KeyLaws.{word-number}
 use Rattle.line.proofs.WordLaws.{WordEnds, ends-at-space, ends-with-line, byte-refused, less-left}
 use Rattle.line.proofs.NumberLaws.{Numbering, numbering-known, numbering-unknown}
 use Rattle.line.proofs.RefusalLaws.{refuses-byte}
@@ -75,32 +72,29 @@ ends c =
     (λ at. ends-with-line letters inside (at .left))
     (c .if1 .came)
 
-look-up-requires : tie.Need-look-up-requires Inv-loop μ-loop
-look-up-requires c κs = accepted (c .before .before)
+sub-look-up : tie.Need-sub-look-up Inv-loop μ-loop
+sub-look-up c = c .before .before .word-at .ensures .past .taken .after
 
--- What was looked up is the number of the word.
-looked-up : (c : tie.After-look-up Inv-loop μ-loop)
-    → let w : tie.After-word-at Inv-loop μ-loop = c .before .before .before in
-    lookupFrom (c .look-up .result) ≡ numberOfWord (cardOf w) (wordOf w)
-looked-up c =
-    let w : tie.After-word-at Inv-loop μ-loop = c .before .before .before in
-    word-number (cardOf w) (accepted w) (w .word-at .ensures) (c .look-up .ensures)
+part-look-up-start : tie.Need-part-look-up-start Inv-loop μ-loop
+part-look-up-start c = c .before .before .word-at .ensures .past .taken .after
+
+part-look-up-end : tie.Need-part-look-up-end Inv-loop μ-loop
+part-look-up-end c = ends (c .before) .within
+
+look-up-requires : tie.Need-look-up-requires Inv-loop μ-loop
+look-up-requires c κs = (accepted (c .before .before .before), c .before .before .before .word-at .ensures .key)
 
 enum-known-found : tie.Need-enum-known-found Inv-loop μ-loop
 enum-known-found c = search needs
 
-number : (c : tie.After-found Inv-loop μ-loop)
-    → let w : tie.After-word-at Inv-loop μ-loop = c .before .before .before .before .before in
-    numberOfWord (cardOf w) (wordOf w) ≡ some (c .found .given .0 .0)
-number c = sym (looked-up (c .before .before)) ∙ ap lookupFrom (c .found .given .1)
-
 cast-words : tie.Need-cast-words Inv-loop μ-loop
 cast-words c =
-    let w : tie.After-word-at Inv-loop μ-loop = c .before .before .before .before .before .before in
-    record { fits = number-fits (cardOf w) (wordOf w) (accepted w) (number (c .before)) }
+    let w : tie.After-word-at Inv-loop μ-loop = c .before .before .before .before .before .before .before in
+    let number = sym (c .before .before .before .look-up .ensures) ∙ ap lookupFrom (c .before .found .given .1) in
+    record { fits = number-fits (cardOf w) (wordOf w) (accepted w) number }
 
 array-write-words : tie.Need-array-write-words Inv-loop μ-loop
-array-write-words c = c .before .before .before .before .if3 .taken
+array-write-words c = c .before .before .before .before .before .if3 .taken
 
 enum-told : tie.Need-enum-told Inv-loop μ-loop
 enum-told c = search needs
@@ -116,19 +110,11 @@ noted c h =
     let After : Bool → List ℕ → Type 0 = Numbering (cardOf w) (lineOf w) (w .word-at .result .end) n in
     let before = w .before .before .loop .inv .numbering (omega (arith, h)) in
     ⊎-elim
-    (λ at. subst₂ After (sym (at .6)) (sym (at .5))
-    (numbering-known before (ends (c .before)) (at .0 .taken)
-    (number
-    (record {
-      before =
-          record { before = record { before = record { before = c .before; if3 = at .0 }; look-up = at .1 }; match = at .2 };
-      found = at .3;
-    }))))
+    (λ at. subst₂ After (sym (at .7)) (sym (at .6))
+    (numbering-known before (ends (c .before)) (at .0 .taken) (sym (at .2 .ensures) ∙ ap lookupFrom (at .4 .given .1))))
     (⊎-elim
-    (λ at. subst₂ After (sym (at .5)) (sym (at .4))
-    (numbering-unknown before (ends (c .before)) (at .0 .taken)
-    (sym (looked-up (record { before = record { before = c .before; if3 = at .0 }; look-up = at .1 }))
-    ∙ ap lookupFrom (at .3 .given .1))))
+    (λ at. subst₂ After (sym (at .6)) (sym (at .5))
+    (numbering-unknown before (ends (c .before)) (at .0 .taken) (sym (at .2 .ensures) ∙ ap lookupFrom (at .4 .given .1))))
     (λ at. absurd (omega (arith, h, at .0 .left))))
     (c .if3 .came)
 
@@ -164,6 +150,9 @@ numbered-spec =
     shared-slice-read-if2
     refused-requires
     returns
+    sub-look-up
+    part-look-up-start
+    part-look-up-end
     look-up-requires
     enum-known-found
     cast-words
