@@ -1,25 +1,28 @@
 -- From the code's end to the promise: tables of zeros are the start of the model's fold, and the model's result is a chart exactly when
 -- the derivable items fit the room.
-use Prim.Native.Nat.{ℕ, zero, suc, _+_, _*_, _≤_, _<_}
+use Prim.Native.Nat.{ℕ, _+_, _*_, _≤_, _<_}
 use native.Mathlib.Omega.{arith}
 use native.Mathlib.Nat.{mul-le-mul}
-use mathlib.Core.Path.{_≡_, refl, sym, _∙_, ap, subst, subst₂}
-use mathlib.Core.List.{List, [], _∷_, _++_, map}
+use mathlib.Core.Path.{_≡_, refl, sym, _∙_, ap, ap₂, subst, subst₂}
+use mathlib.Core.List.{List, _++_}
 use mathlib.Core.Option.{Option, none, some}
 use lib.ListN.{length, take, drop, getD, replicate, length-take, length-replicate}
+use lib.Seq.{take-at, drop-at}
 use Rattle.grammar.specs.Rewriting.{Rule}
 use Rattle.grammar.specs.Input.{Holds, Below, wordIs}
 use Rattle.grammar.specs.ItemList.{items}
 use Rattle.grammar.specs.Chart.{Record, IsChart}
 use Rattle.grammar.proofs.InputLaws.{words-below}
-use Rattle.layout.specs.Card.{nonterminalCount, productionCount, grammarOf, cardNumber}
+use Rattle.layout.specs.Card.{nonterminalCount, productionCount, grammarOf}
 use Rattle.layout.specs.Records.{chartBytes, capacity}
 use Rattle.layout.proofs.CardLaws.{card-one-sided}
+use Rattle.records.specs.Room.{chartIn, numberedChart, settled}
 use Rattle.records.specs.Index.{spans}
+use Rattle.records.proofs.RoomLaws.{numbered-chart-length}
+use Rattle.records.proofs.SettleLaws.{settled-chart}
 use Rattle.records.proofs.TableLaws.{spans-more}
 use Rattle.chart_model.specs.Build.{build}
 use Rattle.chart_model.proofs.Exact.{build-chart, build-room, build-none}
-use Rattle.chart.specs.declared.Built.{Built}
 use Rattle.chart.specs.declared.Built.the-variants.{Chart, TooMany}
 use Rattle.chart.specs.Tables.{grammarIn}
 use Rattle.chart.specs.Fill.{Between, Closed}
@@ -40,10 +43,9 @@ tables-start card words n room {marks = marks} {index = index} {sets = sets} b l
     (rows-none n sets (t .setsThere) (all-zero sets (t .setsZero))) (all-zero marks (t .marksZero)) (all-zero index (t .indexZero)) (t .coversThere) (t .coversZero)
 
 -- Tables of zeros that are long enough for m words and M nonterminals are so for fewer.
-pub tables-lent : (n N m M a b c d : ℕ) → n ≤ m → N ≤ M → M * m * m < a → 3 * (spans m * M) ≤ b → 2 * spans m + 2 * (m + 1) ≤ c → spans m * M ≤ d
+pub tables-lent : (n N m M a b c d : ℕ) → n ≤ m → N ≤ M → spans m * M < a → 3 * (spans m * M) ≤ b → 2 * spans m + 2 * (m + 1) ≤ c → spans m * M ≤ d
     → TablesLent n N (replicate a 0) (replicate b 0) (replicate c 0) (replicate d 0)
 tables-lent n N m M a b c d h k x y z w =
-    let marks : N * n * n ≤ M * m * m = mul-le-mul (mul-le-mul k h) h in
     let more = spans-more n m h in
     let cells : spans n * N ≤ spans m * M = mul-le-mul more k in
     let ra = length-replicate {A = ℕ} a 0 in
@@ -62,10 +64,21 @@ tables-lent n N m M a b c d h k x y z w =
     }
 
 pub closed-as : {many many′ N N′ after : ℕ} {old new : List ℕ} (room n : ℕ) (rules : List ℕ) (words : List ℕ) → many ≡ many′ → N ≡ N′
-    → Closed room (build room (grammarIn rules many) (wordIs (take n words)) N n) old new after
-    → Closed room (build room (grammarIn rules many′) (wordIs (take n words)) N′ n) old new after
+    → Closed n N room (build room (grammarIn rules many) (wordIs (take n words)) N n) old new after
+    → Closed n N′ room (build room (grammarIn rules many′) (wordIs (take n words)) N′ n) old new after
 closed-as {after = after} {old = old} {new = new} room n rules words e f c =
-    subst₂ (λ (k l : ℕ). Closed room (build room (grammarIn rules k) (wordIs (take n words)) l n) old new after) e f c
+    subst₂ (λ (k l : ℕ). Closed n l room (build room (grammarIn rules k) (wordIs (take n words)) l n) old new after) e f c
+
+-- A room that holds a chart with numbers holds the finished chart once they are cleared.
+finished : {after : ℕ} {c : List Record} {new : List ℕ} (n N : ℕ) (old : List ℕ) → after ≡ length c → c ≡ chartIn new after
+    → new ≡ numberedChart n N c ++ drop (16 * length c) old → settled after new ≡ chartBytes c ++ drop (16 * length c) old
+finished {after} {c} {new} n N old same read written =
+    let rest = drop (16 * length c) old in
+    let long : length (numberedChart n N c) ≡ 16 * after = omega (arith, numbered-chart-length n N c) in
+    let exact : take (16 * after) new ≡ numberedChart n N (chartIn new after) =
+    ap (take (16 * after)) written ∙ take-at (numberedChart n N c) rest (16 * after) long ∙ ap (numberedChart n N) read in
+    settled-chart n N new after exact
+    ∙ ap₂ _++_ (ap chartBytes (sym read)) (ap (drop (16 * after)) written ∙ drop-at (numberedChart n N c) rest (16 * after) long)
 
 module _ (card words : List ℕ) (n room : ℕ) (b : Buildable card words n) where
   abbrev result : Option (List Record)
@@ -75,13 +88,13 @@ module _ (card words : List ℕ) (n room : ℕ) (b : Buildable card words n) whe
   below i w h = omega (arith, words-below (take n words) i w h, length-take n words)
 
   pub closed-decoded : {old new : List ℕ} {after : ℕ} (rules : List ℕ) → DecodedAll card (productionCount card) rules
-      → Closed room (build room (grammarIn rules (productionCount card)) (wordIs (take n words)) (nonterminalCount card) n) old new after
-      → Closed room result old new after
+      → Closed n (nonterminalCount card) room (build room (grammarIn rules (productionCount card)) (wordIs (take n words)) (nonterminalCount card) n) old new after
+      → Closed n (nonterminalCount card) room result old new after
   closed-decoded {old} {new} {after} rules d c =
-      subst (λ (g : List Rule). Closed room (build room g (wordIs (take n words)) (nonterminalCount card) n) old new after) (d .decoded) c
+      subst (λ (g : List Rule). Closed n (nonterminalCount card) room (build room g (wordIs (take n words)) (nonterminalCount card) n) old new after) (d .decoded) c
 
   -- The model's two results.
-  decided : {old new : List ℕ} {after : ℕ} (s : Option (List Record)) → result ≡ s → Closed room result old new after
+  decided : {old new : List ℕ} {after : ℕ} (s : Option (List Record)) → result ≡ s → Closed n (nonterminalCount card) room result old new after
       → ((c : List Record) → s ≡ some c → after ≤ room) × (s ≡ none → room < after)
   decided s e c =
       let one = card-one-sided card in
@@ -90,7 +103,7 @@ module _ (card words : List ℕ) (n room : ℕ) (b : Buildable card words n) whe
         λ f. c .over (e ∙ f),
       )
 
-  pub over-room : {old new : List ℕ} {after : ℕ} → Closed room result old new after → room < after
+  pub over-room : {old new : List ℕ} {after : ℕ} → Closed n (nonterminalCount card) room result old new after → room < after
       → room < length (items (grammarOf card) (wordIs (take n words)) n)
   over-room {old} {new} {after} c h = go result refl
     where
@@ -100,32 +113,28 @@ module _ (card words : List ℕ) (n room : ℕ) (b : Buildable card words n) whe
           (lefts-below card (b .accepted)) e
       go (some k) e = absurd (omega (arith, decided (some k) e c .0 k refl))
 
-  pub within-room : {old new : List ℕ} {after : ℕ} → Closed room result old new after → after ≤ room
+  pub within-room : {old new : List ℕ} {after : ℕ} → Closed n (nonterminalCount card) room result old new after → after ≤ room
       → (c : List Record) × IsChart (grammarOf card) (Holds (wordIs (take n words))) c × (after ≡ length c) × (length c ≤ room)
-      × (new ≡ chartBytes c ++ drop (16 * length c) old)
+      × (settled after new ≡ chartBytes c ++ drop (16 * length c) old)
   within-room {old} {new} {after} c h = go result refl
     where
       go : (s : Option (List Record)) → result ≡ s
           → (c : List Record) × IsChart (grammarOf card) (Holds (wordIs (take n words))) c × (after ≡ length c) × (length c ≤ room)
-          × (new ≡ chartBytes c ++ drop (16 * length c) old)
+          × (settled after new ≡ chartBytes c ++ drop (16 * length c) old)
       go none e = absurd (omega (arith, decided none e c .1 refl))
       go (some k) e =
           let one = card-one-sided card in
           let lefts = lefts-below card (b .accepted) in
-          let (same, written) = c .charted k e in (
+          let (same, read, written) = c .charted k e in (
             k,
             build-chart room (nonterminalCount card) n (grammarOf card) (wordIs (take n words)) one below lefts e,
             same,
             build-room room (nonterminalCount card) n (grammarOf card) (wordIs (take n words)) one below lefts e,
-            written,
+            finished n (nonterminalCount card) old same read written,
           )
 
--- The room's own capacity.
-pub room-lent : (chart : List ℕ) {room : ℕ} → room ≡ capacity (length chart) → RoomLent room chart
-room-lent chart e = record { small = omega arith; there = omega arith }
-
 module _ {card words old new : List ℕ} {n room after : ℕ} (b : Buildable card words n) (own : room ≡ capacity (length old))
-    (c : Closed room (build room (grammarOf card) (wordIs (take n words)) (nonterminalCount card) n) old new after) where
+    (c : Closed n (nonterminalCount card) room (build room (grammarOf card) (wordIs (take n words)) (nonterminalCount card) n) old new after) where
   pub built-over : {cleared : List ℕ} → room < after → cleared ≡ replicate (length new) 0
       → BuiltRoom card (take n words) n TooMany old cleared
   built-over h e = (
@@ -133,7 +142,8 @@ module _ {card words old new : List ℕ} {n room after : ℕ} (b : Buildable car
     e ∙ ap (λ (k : ℕ). replicate k 0) (c .sameRoom),
   )
 
-  pub built-within : after ≤ room → BuiltRoom card (take n words) n (Chart after) old new
-  built-within h =
+  pub built-within : {cleared : List ℕ} → after ≤ room → cleared ≡ settled after new
+      → BuiltRoom card (take n words) n (Chart after) old cleared
+  built-within h e =
       let (k, chart, same, fits, written) = within-room card words n room b c h in
-      (k, chart, same, subst (λ (m : ℕ). length k ≤ m) own fits, written)
+      (k, chart, same, subst (λ (m : ℕ). length k ≤ m) own fits, e ∙ written)

@@ -1,6 +1,7 @@
 -- What the loops of `cell` turn on. The bits of a set are walked from the lowest up; a production that lacks an element or has another
 -- left side adds nothing, so those that a set leaves out may be passed over.
-use Prim.Native.Nat.{ℕ, zero, suc, _+_, _-_, _^_, _≤_, _<_}
+use Prim.Native.Nat.{ℕ, zero, suc, _+_, _-_, _*_, _/_, _^_, _≤_, _<_}
+use native.Mathlib.Nat.{mul-comm, mul-le-mul}
 use native.Mathlib.Omega.{arith}
 use native.Mathlib.Numerals.{add-one}
 use native.Mathlib.Decide.{decLt, ℕ-discrete}
@@ -24,11 +25,12 @@ use Rattle.card.specs.declared.Production.the-variants.{Word}
 use Rattle.chart_model.specs.Build.{flatUp, places, barePlaces, byAction, byRule, dependentFirst, turned, ruleAt, byWord, byRuleOver, byProduction, candidates}
 use Rattle.chart_model.proofs.BuildLaws.{turned-within, turned-twice}
 use Rattle.records.specs.Bits.{bitOf}
-use Rattle.records.specs.Room.{chartIn}
-use Rattle.records.specs.Index.{Indexed}
+use Rattle.records.specs.Room.{chartIn, footNumber}
+use Rattle.records.specs.Index.{spans, Indexed}
 use Rattle.chart.specs.Tables.{FirstAbsent, SecondAbsent, leftIs, packedRule, rulesFrom, grammarIn, byOne, chosen, CellSet, thisWord, isWordOf, Least, Without, Splits, Turns}
 use Rattle.steps.proofs.StepLaws.{flatUp-add, flatUp-none}
 use Rattle.steps.proofs.StepCover.{Advancing, advance-skip}
+use Rattle.records.proofs.TableLaws.{spans-twice}
 use Rattle.records.proofs.BitLaws.{bitOf-below, bitOf-zero, bitOf-or, bitOf-power, bitOf-other}
 use Rattle.chart.proofs.BitSets.{or-bits, without-has, without-lacks, bit-one, Walk, walk-has, walk-passed, walk-end}
 
@@ -306,3 +308,18 @@ module _ (w A i p : ℕ) (r : Rule) where
 
   pub word-none : isWordOf A w r ≡ false → [] ≡ byWord (thisWord w) A i p r
   word-none t = rw (by-word w A i p r, t)
+
+-- The bare item's number from the words and the nonterminals, and that computing it needs no large number.
+module _ (n N : ℕ) where
+  triangle : n * (n + 1) / 2 ≡ spans n
+  triangle = rw add-one (omega (arith, spans-twice n))
+
+  pub bare-number : N * (n * (n + 1) / 2) * 8 ≡ footNumber n N bare
+  bare-number = rw triangle (omega (arith, mul-comm N (spans n)))
+
+  pub bare-small : n ≤ 24 → N ≤ 16 → (n * (n + 1) ≤ 600) × (N * (n * (n + 1) / 2) ≤ 4800)
+  bare-small h k =
+      let few : n + 1 ≤ 25 = omega arith in
+      let square : n * (n + 1) ≤ 24 * 25 = mul-le-mul h few in
+      let half : n * (n + 1) / 2 ≤ 300 = omega arith in
+      (square, mul-le-mul k half)

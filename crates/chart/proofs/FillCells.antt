@@ -6,9 +6,9 @@ use native.Mathlib.Omega.{arith}
 use mathlib.Core.Path.{_≡_, refl, sym, _∙_, ap, subst}
 use mathlib.Core.Bool.{Bool, true, false≢true}
 use mathlib.Core.List.{List, [], _∷_}
-use mathlib.Core.Option.{Option, none, some}
+use mathlib.Core.Option.{Option, some}
 use lib.Dec.{eqb}
-use lib.ListN.{length, getD, take, getElem?, length-take}
+use lib.ListN.{length, getD, take, length-take}
 use borrow.Author.Tests.{eqb-true}
 use Rattle.grammar.specs.Rewriting.{Rule, Lexical, Spine}
 use Rattle.grammar.specs.Input.{wordIs}
@@ -23,7 +23,7 @@ use Rattle.chart.specs.Tables.{thisWord, rulesFrom, grammarIn, Finished}
 use Rattle.chart.specs.Fill.{Classified, Noted, Between, Filled, OtherCell}
 use Rattle.records.proofs.RoomLaws.{chart-length, chart-kept-below}
 use Rattle.records.proofs.CoverLaws.{grown-has, grown-others, end-covered}
-use Rattle.chart.proofs.FillLaws.{state-some, entered, entered-within, bareFrom-at, bareFrom-le, indexed-more, sorted-more, marks-clear}
+use Rattle.chart.proofs.FillLaws.{state-some, entered, bareFrom-at, bareFrom-le, indexed-more, sorted-more, marks-clear}
 
 -- The word at a place of the line.
 pub word-test : (words : List ℕ) (n i w : ℕ) → i < n → i < length words → wordIs (take n words) i w ≡ eqb (getD words i 0) w
@@ -111,7 +111,6 @@ same-filled {room = room} {count} {after} {old} {new = new} A i j b within fresh
         feet = w .feet;
         clear = λ φ f. w .marked φ f ∙ rw kept (fresh-among (chartIn old count) A i j φ fresh);
         indexed = rw kept (b .indexed);
-        within = rw e (b .within);
         sorted = rw kept (b .sorted);
         covered = cell-covered A i j within fresh advanced fits
             (subst (λ (c : List Record). Grown (IsCell A i j) (chartIn old count) c) (sym kept) same);
@@ -129,7 +128,7 @@ cell-state old new count after room g at A i j e l ij =
     (cell-grown room g at (j - i) i A (state-some room after new e l))
 
 -- A range's numbers are counts.
-pub range-small : {chart old new : List ℕ} {n base count : ℕ} {r : Range} → Finished chart n base count old new r → base ≤ count
+pub range-small : {chart old new : List ℕ} {base count : ℕ} {r : Range} → Finished chart base count old new r → base ≤ count
     → count ≤ 65535 → (r .from < 65536) × (r .to < 65536) × (r .bare < 65536)
 range-small {chart} {base = base} {count} f a b =
     let e = f .range in (
@@ -143,7 +142,7 @@ cell-ready : {g : List Rule} {n N room base count after : ℕ} {old oldMarks ind
     {rs : List Record} {r : Range} (A i j : ℕ) → Between g n N room old oldMarks index covers sets count → Classified g by → A < N → i < j
     → j ≤ n → places (chartIn old count) A i j ≡ [] → Advanced n N room A i j count rs old oldMarks count new marks covers′ after
     → Grown (IsCell A i j) (chartIn old count) (chartIn new after) → after ≤ room → base ≡ count
-    → Finished new n base after marks marks′ r → 3 * cellAt N A i j + 3 ≤ length index → Noted n by A i j (r .bare) sets sets′
+    → Finished new base after marks marks′ r → 3 * cellAt N A i j + 3 ≤ length index → Noted n by A i j (r .bare) sets sets′
     → Filled g n N room (OtherCell A i j) (addEach room rs (some (chartIn old count))) old count new marks′
     (entered index (cellAt N A i j) r) covers′ sets′ after
 cell-ready {n = n} {N} {room} {base} {count} {after} {old} {index = index} {sets} {new} {sets′ = sets′} {by} {r = r} A i j
@@ -176,10 +175,8 @@ cell-ready {n = n} {N} {room} {base} {count} {after} {old} {index = index} {sets
         countFits = w .countFits;
         exact = w .exact;
         feet = w .feet;
-        clear = marks-clear N A i j fresh grown (eq ∙ sym few) (w .marked) done;
-        indexed = indexed-more n N A i j inN ij jn fresh grown index r l from to last (omega arith) (b .indexed)
-            (λ k. rw few (b .within k));
-        within = entered-within index (cellAt N A i j) after r (λ k. omega (arith, b .within k)) (omega arith) (omega arith) small;
+        clear = marks-clear N A i j fresh grown (eq ∙ sym few) (w .exact) (w .marked) done;
+        indexed = indexed-more n N A i j inN ij jn fresh grown index r l from to last (omega arith) (b .indexed);
         sorted = sorted-more _ n A i j (omega (arith, b .symbolsFit)) ij jn grown by sets sets′ (r .bare) classes (b .sorted) noted lone;
         covered = cell-covered A i j (inN, ij, jn) fresh advanced fits grown;
       };
@@ -194,7 +191,7 @@ pub cell-filled : {g : List Rule} {n N room base count after : ℕ} {old oldMark
     {rs : List Record} {r : Range} (A i j cell : ℕ) → Between g n N room old oldMarks index covers sets count → Classified g by → A < N → i < j
     → j ≤ n → places (chartIn old count) A i j ≡ [] → Advanced n N room A i j count rs old oldMarks count new marks covers′ after
     → Grown (IsCell A i j) (chartIn old count) (chartIn new after) → after ≤ room → base ≡ count
-    → Finished new n base after marks marks′ r → cell ≡ cellAt N A i j → 3 * cell + 3 ≤ length index → index′ ≡ entered index cell r
+    → Finished new base after marks marks′ r → cell ≡ cellAt N A i j → 3 * cell + 3 ≤ length index → index′ ≡ entered index cell r
     → Noted n by A i j (r .bare) sets sets′
     → Filled g n N room (OtherCell A i j) (addEach room rs (some (chartIn old count))) old count new marks′ index′ covers′ sets′ after
 cell-filled {n = n} {N} {index = index} {r = r} A i j cell b classes inN ij jn fresh a grown fits eq done e l put noted =

@@ -1,6 +1,6 @@
 -- What the builder's tables say of a chart that one cell was added to: its marks are gone, its range is known, its productions are
 -- noted, and what the tables say of the other cells still holds, for a cell adds records of its own alone.
-use Prim.Native.Nat.{ℕ, zero, suc, _+_, _-_, _*_, _≤_, _<_}
+use Prim.Native.Nat.{ℕ, zero, suc, _+_, _-_, _*_, _/_, _%_, _≤_, _<_}
 use native.Mathlib.Nat.{le-refl}
 use native.Mathlib.Decide.{ℕ-discrete, decLe}
 use native.Mathlib.Omega.{arith}
@@ -9,9 +9,9 @@ use mathlib.Core.Logic.{_⊎_, inl, inr}
 use mathlib.Core.Bool.{Bool, true, false, cond}
 use mathlib.Core.List.{List, [], _∷_, map}
 use mathlib.Core.Option.{Option, none, some}
-use lib.ListN.{length, getD, set, getElem?, replicate, length-set}
+use lib.ListN.{length, take, getD, set, getElem?, replicate, length-set}
 use lib.Seq.{getD-set-same, getD-set-other}
-use borrow.Author.Tests.{le-ltb, le-leb, lt-leb}
+use borrow.Author.Tests.{le-leb, lt-leb}
 use Rattle.grammar.specs.Rewriting.{Rule, Lexical, Spine}
 use Rattle.grammar.specs.Items.{Foot}
 use Rattle.grammar.specs.ItemList.{item, isBare, among}
@@ -22,11 +22,11 @@ use Rattle.chart_model.specs.Build.{places, barePlaces}
 use Rattle.chart_model.proofs.FillModel.{IsCell, Grown, grown-length, places-other, bares-other, bareAt, places-own, bares-own, foot-place, fresh-among, not-so}
 use Rattle.records.specs.declared.index.Range.{Range}
 use Rattle.records.specs.Bits.{bitOf, holdsBit}
-use Rattle.records.specs.Room.{chartIn, stateOf, footThere, FootFits, markSlot, markBit, markOf, Marked, Working}
-use Rattle.records.specs.Index.{spans, spanAt, cellAt, emptyRange, rangeIn, bareIn, Indexed}
+use Rattle.records.specs.Room.{chartIn, stateOf, footThere, FootFits, footNumber, numberedChart, numberThere, markOf, Marked, Working}
+use Rattle.records.specs.Index.{spans, spanAt, cellAt, rangeIn, bareIn, Indexed}
 use Rattle.chart.specs.Tables.{FirstAbsent, SecondAbsent, Rows, Sorted, bareFrom, Finished}
 use Rattle.chart.specs.Fill.{Classified, Noted, Between}
-use Rattle.records.proofs.RoomLaws.{chart-length, foot-at}
+use Rattle.records.proofs.RoomLaws.{chart-length, foot-at, number-there}
 use Rattle.records.proofs.TableLaws.{span-below, span-same, cell-same}
 use Rattle.records.proofs.CoverLaws.{covered-start}
 
@@ -63,22 +63,11 @@ within-set (x ∷ l) zero v m h a (suc k) = h (suc k)
 within-set (x ∷ l) (suc i) v m h a zero = h 0
 within-set (x ∷ l) (suc i) v m h a (suc k) = within-set l i v m (λ k. h (suc k)) a k
 
--- What the index has of a cell, where its numbers are within the count; and a cell's numbers put in.
-abbrev there : List ℕ → ℕ → Range
-there index cell = record {
-  from = getD index (3 * cell) 0;
-  to = getD index (3 * cell + 1) 0;
-  bare = getD index (3 * cell + 2) 0;
-}
-
-range-within : (index : List ℕ) (cell m : ℕ) → getD index (3 * cell + 1) 0 ≤ m → getD index (3 * cell + 2) 0 ≤ m
-    → rangeIn index cell m ≡ there index cell
-range-within index cell m a b = rw (le-ltb m (getD index (3 * cell + 1) 0) a, le-ltb m (getD index (3 * cell + 2) 0) b)
-
+-- A cell's numbers put into the index.
 abbrev pub entered : List ℕ → ℕ → Range → List ℕ
 entered index cell r = set (set (set index (3 * cell) (r .from)) (3 * cell + 1) (r .to)) (3 * cell + 2) (r .bare)
 
-entered-here : (index : List ℕ) (cell : ℕ) (r : Range) → 3 * cell + 3 ≤ length index → there (entered index cell r) cell ≡ r
+entered-here : (index : List ℕ) (cell : ℕ) (r : Range) → 3 * cell + 3 ≤ length index → rangeIn (entered index cell r) cell ≡ r
 entered-here index cell r l =
     let l₁ = set index (3 * cell) (r .from) in
     let l₂ = set l₁ (3 * cell + 1) (r .to) in
@@ -101,7 +90,7 @@ entered-at index cell x r u v w =
     getD-set-other l₂ (3 * cell + 2) x (r .bare) 0 w
     ∙ (getD-set-other l₁ (3 * cell + 1) x (r .to) 0 v ∙ getD-set-other index (3 * cell) x (r .from) 0 u)
 
-entered-other : (index : List ℕ) (cell cell′ : ℕ) (r : Range) → (cell′ ≡ cell → ⊥) → there (entered index cell r) cell′ ≡ there index cell′
+entered-other : (index : List ℕ) (cell cell′ : ℕ) (r : Range) → (cell′ ≡ cell → ⊥) → rangeIn (entered index cell r) cell′ ≡ rangeIn index cell′
 entered-other index cell cell′ r d =
     λ k. record {
       from = entered-at index cell (3 * cell′) r (omega arith) (omega arith) (omega arith) k;
@@ -109,7 +98,7 @@ entered-other index cell cell′ r d =
       bare = entered-at index cell (3 * cell′ + 2) r (omega arith) (omega arith) (omega arith) k;
     }
 
-pub entered-within : (index : List ℕ) (cell m : ℕ) (r : Range) → ((k : ℕ) → getD index k 0 ≤ m) → r .from ≤ m → r .to ≤ m → r .bare ≤ m
+entered-within : (index : List ℕ) (cell m : ℕ) (r : Range) → ((k : ℕ) → getD index k 0 ≤ m) → r .from ≤ m → r .to ≤ m → r .bare ≤ m
     → (k : ℕ) → getD (entered index cell r) k 0 ≤ m
 entered-within index cell m r h a b d k =
     let l₁ = set index (3 * cell) (r .from) in
@@ -138,55 +127,42 @@ Says b A i j r = (places b A i j ≡ counted (r .from) (r .to - r .from)) × (ba
 module _ (n N A i j : ℕ) (inN : A < N) (ij : i < j) (jn : j ≤ n) {c b : List Record} (fresh : places c A i j ≡ [])
     (grown : Grown (IsCell A i j) c b) where
   indexed-here : (index : List ℕ) (r : Range) → 3 * cellAt N A i j + 3 ≤ length index → r .from ≡ length c → r .to ≡ length b
-      → r .bare ≡ bareAt b (length c) (length b - length c) → r .bare ≤ length b
-      → Says b A i j (rangeIn (entered index (cellAt N A i j) r) (cellAt N A i j) (length b))
-  indexed-here index r l from to last small =
-      let cell = cellAt N A i j in
-      let here = entered-here index cell r l in
+      → r .bare ≡ bareAt b (length c) (length b - length c)
+      → Says b A i j (rangeIn (entered index (cellAt N A i j) r) (cellAt N A i j))
+  indexed-here index r l from to last =
       let long = grown-length grown in
       let size : length b ≡ length c + (length b - length c) = omega arith in
-      let range : rangeIn (entered index cell r) cell (length b) ≡ r =
-      range-within (entered index cell r) cell (length b)
-      (omega (arith, ap (λ (x : Range). x .to) here)) (omega (arith, ap (λ (x : Range). x .bare) here)) ∙ here in
-      subst (Says b A i j) (sym range) (
+      subst (Says b A i j) (sym (entered-here index (cellAt N A i j) r l)) (
         places-own A i j fresh grown (length b - length c) size ∙ rw (from, to),
         bares-own A i j bareIn refl (λ x. refl) fresh grown (length b - length c) size ∙ rw last,
       )
 
-  indexed-other : (index : List ℕ) (r : Range) → Indexed n N c index → ((k : ℕ) → getD index k 0 ≤ length c) → (A′ i′ j′ : ℕ) → A′ < N
-      → i′ < j′ → j′ ≤ n → (cellAt N A i j ≡ cellAt N A′ i′ j′ → ⊥)
-      → Says b A′ i′ j′ (rangeIn (entered index (cellAt N A i j) r) (cellAt N A′ i′ j′) (length b))
-  indexed-other index r old small A′ i′ j′ x y z d =
-      let cell = cellAt N A i j in
-      let cell′ = cellAt N A′ i′ j′ in
-      let here = entered-other index cell cell′ r (λ e. d (sym e)) in
-      let long = grown-length grown in
-      let range : rangeIn (entered index cell r) cell′ (length b) ≡ rangeIn index cell′ (length c) =
-      range-within (entered index cell r) cell′ (length b)
-      (omega (arith, ap (λ (x : Range). x .to) here, small (3 * cell′ + 1)))
-      (omega (arith, ap (λ (x : Range). x .bare) here, small (3 * cell′ + 2)))
-      ∙ (here ∙ sym (range-within index cell′ (length c) (small (3 * cell′ + 1)) (small (3 * cell′ + 2)))) in
+  indexed-other : (index : List ℕ) (r : Range) → Indexed n N c index → (A′ i′ j′ : ℕ) → A′ < N → i′ < j′ → j′ ≤ n
+      → (cellAt N A i j ≡ cellAt N A′ i′ j′ → ⊥) → Says b A′ i′ j′ (rangeIn (entered index (cellAt N A i j) r) (cellAt N A′ i′ j′))
+  indexed-other index r old A′ i′ j′ x y z d =
       let out : IsCell A i j A′ i′ j′ → ⊥ = λ (p, q, s). d (rw (p, q, s)) in
-      subst (Says b A′ i′ j′) (sym range)
+      subst (Says b A′ i′ j′) (sym (entered-other index (cellAt N A i j) (cellAt N A′ i′ j′) r (λ e. d (sym e))))
       (places-other A′ i′ j′ out grown ∙ old .ranges A′ i′ j′ x y z, bares-other A′ i′ j′ out grown ∙ old .bares A′ i′ j′ x y z)
 
   pub indexed-more : (index : List ℕ) (r : Range) → 3 * cellAt N A i j + 3 ≤ length index → r .from ≡ length c → r .to ≡ length b
       → r .bare ≡ bareAt b (length c) (length b - length c) → r .bare ≤ length b → Indexed n N c index
-      → ((k : ℕ) → getD index k 0 ≤ length c) → Indexed n N b (entered index (cellAt N A i j) r)
-  indexed-more index r l from to last small old within =
+      → Indexed n N b (entered index (cellAt N A i j) r)
+  indexed-more index r l from to last small old =
+      let long = grown-length grown in
       record {
         long = simp length-set (old .long);
+        within = entered-within index (cellAt N A i j) (length b) r (λ k. omega (arith, old .within k)) (omega arith) (omega arith) small;
         ranges = λ A′ i′ j′ x y z. says A′ i′ j′ x y z .0;
         bares = λ A′ i′ j′ x y z. says A′ i′ j′ x y z .1;
       }
     where
       says : (A′ i′ j′ : ℕ) → A′ < N → i′ < j′ → j′ ≤ n
-          → Says b A′ i′ j′ (rangeIn (entered index (cellAt N A i j) r) (cellAt N A′ i′ j′) (length b))
+          → Says b A′ i′ j′ (rangeIn (entered index (cellAt N A i j) r) (cellAt N A′ i′ j′))
       says A′ i′ j′ x y z = elim (ℕ-discrete (cellAt N A i j) (cellAt N A′ i′ j′)) [
         | yes e ↦ let (p, q, s) = cell-same n N A i j A′ i′ j′ inN ij jn x y z e in
-            subst₃ (λ (A′ i′ j′ : ℕ). Says b A′ i′ j′ (rangeIn (entered index (cellAt N A i j) r) (cellAt N A′ i′ j′) (length b)))
-            p q s (indexed-here index r l from to last small)
-        | no d ↦ indexed-other index r old within A′ i′ j′ x y z d
+            subst₃ (λ (A′ i′ j′ : ℕ). Says b A′ i′ j′ (rangeIn (entered index (cellAt N A i j) r) (cellAt N A′ i′ j′)))
+            p q s (indexed-here index r l from to last)
+        | no d ↦ indexed-other index r old A′ i′ j′ x y z d
       ]
 
 -- Before the first cell: no records, and marks and an index of zeros.
@@ -205,11 +181,8 @@ pub bit-zero : (b : ℕ) → bitOf b 0 ≡ 0
 bit-zero zero = refl
 bit-zero (suc b) = bit-zero b
 
-empty-range : (index : List ℕ) (cell : ℕ) → ((k : ℕ) → getD index k 0 ≡ 0) → rangeIn index cell 0 ≡ emptyRange
-empty-range index cell zeros = rw (zeros (3 * cell), zeros (3 * cell + 1), zeros (3 * cell + 2))
-
 pub start-between : {g : List Rule} {n N room : ℕ} {chart marks index covers sets : List ℕ} → n ≤ 24 → N ≤ 16 → room ≤ 65535
-    → 16 * room ≤ length chart → N * n * n < length marks → 3 * (spans n * N) ≤ length index → Rows n sets
+    → 16 * room ≤ length chart → spans n * N < length marks → 3 * (spans n * N) ≤ length index → Rows n sets
     → ((k : ℕ) → getD marks k 0 ≡ 0) → ((k : ℕ) → getD index k 0 ≡ 0) → spans n * N ≤ length covers
     → covers ≡ replicate (length covers) 0 → Between g n N room chart marks index covers sets 0
 start-between {n = n} {N} {marks = marks} {index} a b c d e f h unmarked zeros there uncovered =
@@ -222,13 +195,13 @@ start-between {n = n} {N} {marks = marks} {index} a b c d e f h unmarked zeros t
       countFits = omega arith;
       exact = refl;
       feet = λ m l. absurd (omega arith);
-      clear = λ φ fits. rw (unmarked (markSlot n φ), bit-zero (markBit φ));
+      clear = λ φ fits. rw (unmarked (footNumber n N φ / 8), bit-zero (footNumber n N φ % 8));
       indexed = record {
         long = f;
-        ranges = λ A i j x y z. rw (empty-range index (cellAt N A i j) zeros);
-        bares = λ A i j x y z. rw (empty-range index (cellAt N A i j) zeros);
+        within = λ k. omega (arith, zeros k);
+        ranges = λ A i j x y z. rw (zeros (3 * cellAt N A i j), zeros (3 * cellAt N A i j + 1));
+        bares = λ A i j x y z. rw (zeros (3 * cellAt N A i j + 2));
       };
-      within = λ k. omega (arith, zeros k);
       sorted = record {
         rows = h;
         firsts = λ p r i k x y z w. first-empty i k r;
@@ -336,24 +309,27 @@ search-place f s base (suc m) = next (search-place f s base m) (decLe base m) (�
     next (inr h) (yes l) (no d) = inr (missing-more f s base m h (λ _ e. d e))
     next (inr h) (no d) q = inr (missing-more f s base m h (λ l _. d l))
 
--- No foot is marked once a cell is finished: where a mark was, a record of the cell has the foot, and its slot was cleared.
+-- No foot is marked once a cell is finished: where a mark was, a record of the cell has the foot, and the byte of its number was cleared.
 pub marks-clear : {chart marks new : List ℕ} {n count base : ℕ} {r : Range} {c : List Record} (N A i j : ℕ) → places c A i j ≡ []
-    → Grown (IsCell A i j) c (chartIn chart count) → base ≡ length c → Marked n N A i j (chartIn chart count) marks
-    → Finished chart n base count marks new r → (φ : Foot) → FootFits n N φ → markOf n new φ ≡ false
-marks-clear {chart} {marks} {new} {n} {count} {base} N A i j fresh grown e marked done φ fits =
-    go (search-place (λ m. markSlot n (footThere chart m)) (markSlot n φ) base count)
+    → Grown (IsCell A i j) c (chartIn chart count) → base ≡ length c → take (16 * count) chart ≡ numberedChart n N (chartIn chart count)
+    → Marked n N A i j (chartIn chart count) marks → Finished chart base count marks new r → (φ : Foot) → FootFits n N φ
+    → markOf n N new φ ≡ false
+marks-clear {chart} {marks} {new} {n} {count} {base} N A i j fresh grown e exact marked done φ fits =
+    go (search-place (λ m. numberThere chart m / 8) (footNumber n N φ / 8) base count)
   where
-    go : Found (λ m. markSlot n (footThere chart m)) (markSlot n φ) base count
-        ⊎ Missing (λ m. markSlot n (footThere chart m)) (markSlot n φ) base count → markOf n new φ ≡ false
+    go : Found (λ m. numberThere chart m / 8) (footNumber n N φ / 8) base count
+        ⊎ Missing (λ m. numberThere chart m / 8) (footNumber n N φ / 8) base count → markOf n N new φ ≡ false
     go (inl (m, a, b, q)) =
-        let z : getD new (markSlot n φ) 0 ≡ 0 = subst (λ (s : ℕ). getD new s 0 ≡ 0) q (done .cleared m a b) in
-        rw (z, bit-zero (markBit φ))
+        let z : getD new (footNumber n N φ / 8) 0 ≡ 0 = subst (λ (s : ℕ). getD new s 0 ≡ 0) q (done .cleared m a b) in
+        rw (z, bit-zero (footNumber n N φ % 8))
     go (inr h) =
-        ap (holdsBit (markBit φ)) (done .others (markSlot n φ) h)
+        ap (holdsBit (footNumber n N φ % 8)) (done .others (footNumber n N φ / 8) h)
         ∙ (marked φ fits ∙ not-so (among (item A i j φ) (map itemOf (chartIn chart count))) absent)
       where
         absent : among (item A i j φ) (map itemOf (chartIn chart count)) ≡ true → ⊥
         absent t =
             let (x, a, b, f) = foot-place A i j fresh grown (among-true _ _ t) in
             let x<count : x < count = omega (arith, chart-length chart count) in
-            h x (omega arith) x<count (ap (markSlot n) (sym (foot-at chart count x x<count) ∙ f))
+            h x (omega arith) x<count
+            (ap (λ (k : ℕ). k / 8)
+            (number-there n N chart count exact x x<count ∙ ap (footNumber n N) (sym (foot-at chart count x x<count) ∙ f)))

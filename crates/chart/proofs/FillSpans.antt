@@ -7,7 +7,7 @@ use native.Mathlib.Omega.{arith}
 use mathlib.Core.Path.{_≡_, refl, sym, _∙_, ap, subst}
 use mathlib.Core.Logic.{_⊎_, inl, inr}
 use mathlib.Core.Bool.{Bool, _&&_, and-eq-true-iff}
-use mathlib.Core.List.{List, [], _∷_, _++_}
+use mathlib.Core.List.{List, [], _++_}
 use mathlib.Core.Option.{Option, none, some}
 use lib.Bits.{bitAnd}
 use lib.Dec.{eqb}
@@ -18,13 +18,12 @@ use Rattle.grammar.specs.Rewriting.{Rule, Lexical, Spine}
 use Rattle.grammar.specs.Input.{wordIs}
 use Rattle.grammar.specs.Chart.{Record}
 use Rattle.grammar.proofs.StandsLaws.{some-same, none-some}
-use Rattle.layout.specs.Records.{chartBytes}
 use Rattle.chart_model.specs.Build.{foldUp, places, byRule, byWord, byRuleOver, candidates, addEach, fillCell, closeSpan, closeBack, closeEnd}
 use Rattle.chart_model.proofs.BuildLaws.{foldUp-more}
 use Rattle.chart_model.proofs.FillModel.{Grown, same, grown-length, cell-grown, span-grown, end-grown, all-grown, places-other, bares-other, fold-none, not-so}
 use Rattle.chart_model.proofs.Absent.{splits-none, candidates-none}
 use Rattle.records.specs.Bits.{bitOf}
-use Rattle.records.specs.Room.{chartIn}
+use Rattle.records.specs.Room.{chartIn, numberedChart}
 use Rattle.records.specs.Index.{spanAt}
 use Rattle.chart.specs.Tables.{FirstAbsent, SecondAbsent, Sorted, Splits, leftIs, OwnSet, CellSet}
 use Rattle.chart.specs.declared.sets.Meeting.{Meeting}
@@ -325,7 +324,7 @@ module _ {g : List Rule} {n N room count after : ℕ} {Other : ℕ → ℕ → �
   within c e (yes l) = l
   within c e (no d) = absurd (none-some (sym (state-over room after new (filled .model) (omega arith)) ∙ e))
 
-  pub closed-all : Closed room s old new after
+  pub closed-all : Closed n N room s old new after
   closed-all =
       record {
         sameRoom = filled .sameRoom;
@@ -333,11 +332,13 @@ module _ {g : List Rule} {n N room count after : ℕ} {Other : ℕ → ℕ → �
         charted = λ c e. charted c e (within c e (decLe after room));
       }
     where
-      charted : (c : List Record) → s ≡ some c → after ≤ room → (after ≡ length c) × (new ≡ chartBytes c ++ drop (16 * length c) old)
+      charted : (c : List Record) → s ≡ some c → after ≤ room
+          → (after ≡ length c) × (c ≡ chartIn new after) × (new ≡ numberedChart n N c ++ drop (16 * length c) old)
       charted c e l =
           let same : chartIn new after ≡ c = some-same (sym (state-some room after new (filled .model) l) ∙ e) in
           let size : after ≡ length c = sym (chart-length new after) ∙ ap length same in (
             size,
+            sym same,
             rw (← size, ← same)
                 (sym (take-append-drop (16 * after) new) ∙ rw (filled .ready l .exact, filled .rest l)),
           )

@@ -1,6 +1,6 @@
 -- The loop that takes a cell's marks back. A mark that was cleared stays so, since nothing but clearing happens, and the last bare
 -- item that was met is the cell's.
-use Prim.Native.Nat.{ℕ, suc, _+_, _-_, _≤_, _<_}
+use Prim.Native.Nat.{ℕ, suc, _+_, _-_, _/_, _≤_, _<_}
 use native.Mathlib.Omega.{arith}
 use native.Mathlib.Numerals.{add-one}
 use native.Mathlib.Decide.{decLt, ℕ-discrete}
@@ -13,7 +13,7 @@ use borrow.Author.Tests.{eq-eqb, ne-eqb}
 use Rattle.grammar.specs.Items.{Foot}
 use Rattle.grammar.specs.ItemList.{isBare}
 use Rattle.records.specs.declared.record.Foot as declared
-use Rattle.records.specs.Room.{footThere, footFrom, markSlot}
+use Rattle.records.specs.Room.{footThere, footFrom, numberThere}
 use Rattle.chart.specs.Tables.{bareFrom, Finished}
 
 -- A mark that is cleared stays so.
@@ -44,8 +44,8 @@ bare-more chart base m now next l e f =
     ∙ ap (bareFrom chart base) more
 
 -- What holds of the records from the base to m: of none, of all, of one more.
-module _ (chart : List ℕ) (n base : ℕ) where
-  pub finish-start : (marks : List ℕ) → Finished chart n base base marks marks (record { from = base; to = base; bare = 0 })
+module _ (chart : List ℕ) (base : ℕ) where
+  pub finish-start : (marks : List ℕ) → Finished chart base base marks marks (record { from = base; to = base; bare = 0 })
   finish-start marks = record {
     sameLength = refl;
     range = ap (λ m. record { from = base; to = base; bare = bareFrom chart base m }) none;
@@ -58,36 +58,36 @@ module _ (chart : List ℕ) (n base : ℕ) where
       none = omega arith
 
   pub finish-end : {m count now : ℕ} {old new : List ℕ} → m ≤ count → count ≤ m
-      → Finished chart n base m old new (record { from = base; to = m; bare = now })
-      → Finished chart n base count old new (record { from = base; to = count; bare = now })
+      → Finished chart base m old new (record { from = base; to = m; bare = now })
+      → Finished chart base count old new (record { from = base; to = count; bare = now })
   finish-end {m} {count} {now} {old} {new} a b f =
-      subst (λ k. Finished chart n base k old new (record { from = base; to = k; bare = now })) same f
+      subst (λ k. Finished chart base k old new (record { from = base; to = k; bare = now })) same f
     where
       same : m ≡ count
       same = omega arith
 
   module _ {m now next : ℕ} {old mid new : List ℕ} (l : base ≤ m)
-      (f : Finished chart n base m old mid (record { from = base; to = m; bare = now }))
-      (inside : markSlot n (footThere chart m) < length mid) (e : new ≡ set mid (markSlot n (footThere chart m)) 0)
+      (f : Finished chart base m old mid (record { from = base; to = m; bare = now }))
+      (inside : numberThere chart m / 8 < length mid) (e : new ≡ set mid (numberThere chart m / 8) 0)
       (b : next ≡ cond (isBare (footThere chart m)) (m + 1) now) where
     clear : (s : ℕ) → getD mid s 0 ≡ 0 → getD new s 0 ≡ 0
-    clear s z = ap (λ t. getD t s 0) e ∙ still-clear mid (markSlot n (footThere chart m)) s z
+    clear s z = ap (λ t. getD t s 0) e ∙ still-clear mid (numberThere chart m / 8) s z
 
-    cleared-more : (k : ℕ) → base ≤ k → k < m + 1 → getD new (markSlot n (footThere chart k)) 0 ≡ 0
+    cleared-more : (k : ℕ) → base ≤ k → k < m + 1 → getD new (numberThere chart k / 8) 0 ≡ 0
     cleared-more k a h = elim (ℕ-discrete k m) [
-      | yes same ↦ rw (same, e) (getD-set-same mid (markSlot n (footThere chart m)) 0 0 inside)
-      | no d ↦ clear (markSlot n (footThere chart k)) (f .cleared k a (omega arith))
+      | yes same ↦ rw (same, e) (getD-set-same mid (numberThere chart m / 8) 0 0 inside)
+      | no d ↦ clear (numberThere chart k / 8) (f .cleared k a (omega arith))
     ]
 
-    others-more : (s : ℕ) → ((k : ℕ) → base ≤ k → k < m + 1 → markSlot n (footThere chart k) ≡ s → ⊥) → getD new s 0 ≡ getD old s 0
+    others-more : (s : ℕ) → ((k : ℕ) → base ≤ k → k < m + 1 → numberThere chart k / 8 ≡ s → ⊥) → getD new s 0 ≡ getD old s 0
     others-more s h =
         ap (λ t. getD t s 0) e
-        ∙ getD-set-other mid (markSlot n (footThere chart m)) s 0 0 (λ same. h m l (omega arith) (sym same))
+        ∙ getD-set-other mid (numberThere chart m / 8) s 0 0 (λ same. h m l (omega arith) (sym same))
         ∙ f .others s (λ k a t. h k a (omega arith))
 
-    pub finish-turn : Finished chart n base (m + 1) old new (record { from = base; to = m + 1; bare = next })
+    pub finish-turn : Finished chart base (m + 1) old new (record { from = base; to = m + 1; bare = next })
     finish-turn = record {
-      sameLength = ap length e ∙ length-set mid (markSlot n (footThere chart m)) 0 ∙ f .sameLength;
+      sameLength = ap length e ∙ length-set mid (numberThere chart m / 8) 0 ∙ f .sameLength;
       range = ap (λ x. record { from = base; to = m + 1; bare = x })
           (bare-more chart base m now next l (ap (λ r. r .bare) (f .range)) b);
       cleared = cleared-more;

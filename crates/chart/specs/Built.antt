@@ -32,7 +32,7 @@ pub record TablesLent (n N : ℕ) (marks index sets covers : List ℕ) : Type 0 
   pub indexZero : index ≡ replicate (length index) 0
   pub setsZero : sets ≡ replicate (length sets) 0
   pub coversZero : covers ≡ replicate (length covers) 0
-  pub marksThere : N * n * n < length marks
+  pub marksThere : spans n * N < length marks
   pub indexThere : 3 * (spans n * N) ≤ length index
   pub setsThere : 2 * spans n + 2 * (n + 1) ≤ length sets
   pub coversThere : spans n * N ≤ length covers

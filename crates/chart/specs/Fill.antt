@@ -1,7 +1,7 @@
 -- What holds between two cells, and what filling cells promises.
-use Prim.Native.Nat.{ℕ, zero, suc, _+_, _*_, _-_, _%_, _^_, _≤_, _<_}
+use Prim.Native.Nat.{ℕ, _+_, _*_, _%_, _^_, _≤_, _<_}
 use mathlib.Core.Path.{_≡_}
-use mathlib.Core.Bool.{Bool, true, false}
+use mathlib.Core.Bool.{false}
 use mathlib.Core.List.{List, [], _∷_, _++_}
 use mathlib.Core.Option.{Option, none, some}
 use lib.Bits.{bitAnd, bitOr}
@@ -9,11 +9,9 @@ use lib.ListN.{length, take, drop, getD, getElem?, set}
 use Rattle.grammar.specs.Rewriting.{Rule, Lexical, Spine}
 use Rattle.grammar.specs.Items.{Foot}
 use Rattle.grammar.specs.Chart.{Record}
-use Rattle.layout.specs.Records.{chartBytes}
 use Rattle.chart_model.specs.Build.{places}
-use Rattle.records.specs.declared.index.Range.{Range}
 use Rattle.records.specs.Bits.{bitOf}
-use Rattle.records.specs.Room.{chartIn, stateOf, FootFits, FeetFit, markOf}
+use Rattle.records.specs.Room.{chartIn, stateOf, FootFits, FeetFit, numberedChart, markOf}
 use Rattle.records.specs.Index.{spans, spanAt, Indexed}
 use Rattle.records.specs.Cover.{Covered}
 use Rattle.chart.specs.declared.sets.Meeting.{Meeting}
@@ -116,20 +114,18 @@ pub record Noted (n : ℕ) (by : List ℕ) (A i j bare : ℕ) (old new : List �
       → (bitOf p (getD old (2 * spanAt i j + 1) 0) ≡ 0) × (bitOf p (getD by (64 + A) 0) ≡ 0)
       × ((bare ≡ 0 → ⊥) → bitOf p (getD by (48 + A) 0) ≡ 0)
 
--- Between two cells: the room and the tables agree, and no foot is marked. No number in the index is past the count, so that none
--- comes to stand for records when the count grows.
+-- Between two cells: the room and the tables agree, and no foot is marked.
 pub record Between (g : List Rule) (n N room : ℕ) (chart marks index covers sets : List ℕ) (count : ℕ) : Type 0 where
   pub wordsFit : n ≤ 24
   pub symbolsFit : N ≤ 16
   pub roomSmall : room ≤ 65535
   pub roomThere : 16 * room ≤ length chart
-  pub marksThere : N * n * n < length marks
+  pub marksThere : spans n * N < length marks
   pub countFits : count ≤ room
-  pub exact : take (16 * count) chart ≡ chartBytes (chartIn chart count)
+  pub exact : take (16 * count) chart ≡ numberedChart n N (chartIn chart count)
   pub feet : FeetFit n N (chartIn chart count)
-  pub clear : (φ : Foot) → FootFits n N φ → markOf n marks φ ≡ false
+  pub clear : (φ : Foot) → FootFits n N φ → markOf n N marks φ ≡ false
   pub indexed : Indexed n N (chartIn chart count) index
-  pub within : (k : ℕ) → getD index k 0 ≤ count
   pub sorted : Sorted g n (chartIn chart count) sets
   pub covered : Covered n N (chartIn chart count) covers
 
@@ -153,8 +149,10 @@ OtherSpan i j A′ i′ j′ = i′ ≡ i → j′ ≡ j → ⊥
 abbrev pub OtherEnd : ℕ → ℕ → ℕ → ℕ → Type 0
 OtherEnd j A′ i′ j′ = j′ ≡ j → ⊥
 
--- All spans are closed: the room holds the model's chart and then what was there; or an item did not fit.
-pub record Closed (room : ℕ) (s : Option (List Record)) (old new : List ℕ) (after : ℕ) : Type 0 where
+-- All spans are closed: the room holds the model's chart, its records with the numbers of their feet, and then what was there; or an
+-- item did not fit.
+pub record Closed (n N room : ℕ) (s : Option (List Record)) (old new : List ℕ) (after : ℕ) : Type 0 where
   pub sameRoom : length new ≡ length old
   pub over : s ≡ none → room < after
-  pub charted : (c : List Record) → s ≡ some c → (after ≡ length c) × (new ≡ chartBytes c ++ drop (16 * length c) old)
+  pub charted : (c : List Record) → s ≡ some c
+      → (after ≡ length c) × (c ≡ chartIn new after) × (new ≡ numberedChart n N c ++ drop (16 * length c) old)

@@ -2,7 +2,7 @@
 use Prim.Native.Nat.{ℕ, zero, suc, _+_, _*_, _-_, _/_, _%_, _≤_, _<_}
 use mathlib.Core.Path.{_≡_}
 use mathlib.Core.Logic.{_⊎_}
-use mathlib.Core.Bool.{Bool, true, false, cond, _&&_}
+use mathlib.Core.Bool.{Bool, false, cond, _&&_}
 use mathlib.Core.List.{List, [], _∷_}
 use mathlib.Core.Option.{Option, none, some}
 use lib.Dec.{eqb}
@@ -13,7 +13,7 @@ use Rattle.grammar.specs.Chart.{Record}
 use Rattle.layout.specs.Card.{ruleOf}
 use Rattle.chart_model.specs.Build.{places, barePlaces, turned, byRuleOver}
 use Rattle.records.specs.Bits.{bitOf, holdsBit}
-use Rattle.records.specs.Room.{footThere, markSlot}
+use Rattle.records.specs.Room.{footThere, numberThere}
 use Rattle.records.specs.Index.{spans, spanAt}
 use Rattle.records.specs.declared.index.Range.{Range}
 use Rattle.steps.specs.Fits.{RuleFits}
@@ -128,9 +128,9 @@ abbrev pub bareFrom : List ℕ → ℕ → ℕ → ℕ
 bareFrom chart base zero = 0
 bareFrom chart base (suc m) = cond (isBare (footThere chart (base + m))) (suc (base + m)) (bareFrom chart base m)
 
-pub record Finished (chart : List ℕ) (n base count : ℕ) (old new : List ℕ) (r : Range) : Type 0 where
+pub record Finished (chart : List ℕ) (base count : ℕ) (old new : List ℕ) (r : Range) : Type 0 where
   pub sameLength : length new ≡ length old
   pub range : r ≡ record { from = base; to = count; bare = bareFrom chart base (count - base) }
-  pub cleared : (m : ℕ) → base ≤ m → m < count → getD new (markSlot n (footThere chart m)) 0 ≡ 0
+  pub cleared : (m : ℕ) → base ≤ m → m < count → getD new (numberThere chart m / 8) 0 ≡ 0
   pub shrunk : (s : ℕ) → getD old s 0 ≡ 0 → getD new s 0 ≡ 0
-  pub others : (s : ℕ) → ((m : ℕ) → base ≤ m → m < count → markSlot n (footThere chart m) ≡ s → ⊥) → getD new s 0 ≡ getD old s 0
+  pub others : (s : ℕ) → ((m : ℕ) → base ≤ m → m < count → numberThere chart m / 8 ≡ s → ⊥) → getD new s 0 ≡ getD old s 0

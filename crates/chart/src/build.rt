@@ -1,4 +1,4 @@
-// Cell by cell, span by span, end by end.
+// Cell by cell, span by span, end by end: the spans of an end from the shortest.
 use crate::sets::Meeting;
 use records::add::Sizes;
 use records::record::Cell;
@@ -269,7 +269,7 @@ pub fn close_all(
     words: &[u8; 24],
 ) -> usize
     requires { ⌜ Between (grammarIn (now rules) many) n symbols room (now chart) (now marks) (now index) (now covers) (now sets) 0 × RulesFit symbols (now rules) × Classified (grammarIn (now rules) many) (now by) × (many ≤ 64) × (n ≤ length (now words)) × (length (now both) ≡ 25) ⌝ }
-    ensures { λ r. ⌜ Closed room (build room (grammarIn (now (rules .entry)) many) (wordIs (take n (now (words .entry)))) symbols n) (now (chart .entry)) (now (chart .exit)) r ⌝ }
+    ensures { λ r. ⌜ Closed n symbols room (build room (grammarIn (now (rules .entry)) many) (wordIs (take n (now (words .entry)))) symbols n) (now (chart .entry)) (now (chart .exit)) r ⌝ }
 {
     let mut e = 0;
     let mut now = 0;

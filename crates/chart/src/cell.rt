@@ -18,7 +18,7 @@ ghost use Rattle.records.specs.Index.{Indexed, SpanFits};
 ghost use Rattle.records.specs.Cover.{Covering, Advanced};
 ghost use Rattle.chart.specs.Tables.{Splits, CellSet, packedRule, grammarIn, RulesFit, thisWord, isWordOf, Finished};
 
-// What production p adds at a place with word w.
+// What production p adds at a place with word w: a bare item, whose number comes after those of all feet with an index.
 fn at_word(
     chart: &mut [u8],
     marks: &mut [u8],
@@ -45,7 +45,8 @@ fn at_word(
             dependent: NOWHERE,
             continuation: NOWHERE,
         };
-        return records::add::add(chart, marks, z, c, f, step, count);
+        let number = z.symbols * (z.words * (z.words + 1) / 2) * 8;
+        return records::add::add(chart, marks, z, c, f, number, step, count);
     }
     count
 }
@@ -214,7 +215,7 @@ pub fn fill_items(
 // The cell is filled: its marks are taken back, and where its records stand is known.
 pub fn finish(chart: &[u8], marks: &mut [u8], z: Sizes, c: Cell, count: usize) -> Range
     requires { ⌜ Working (z .words) (z .symbols) (z .room) (c .left) (c .from) (c .to) (now chart) (now marks) count × (z .base ≤ count) ⌝ }
-    ensures { λ r. ⌜ Finished (now (chart .entry)) (z .words) (z .base) count (now (marks .entry)) (now (marks .exit)) r ⌝ }
+    ensures { λ r. ⌜ Finished (now (chart .entry)) (z .base) count (now (marks .entry)) (now (marks .exit)) r ⌝ }
 {
     let mut m = z.base;
     let mut bare = 0;
@@ -223,7 +224,8 @@ pub fn finish(chart: &[u8], marks: &mut [u8], z: Sizes, c: Cell, count: usize) -
         if f.index == 0 {
             bare = m + 1;
         }
-        records::marks::unmark(marks, z.words, f);
+        let number = records::record::number_at(chart, m);
+        records::marks::unmark(marks, number);
         m += 1;
     }
     Range {

@@ -16,7 +16,7 @@ pub enum Built {
 }
 
 // The chart of n words under an accepted card, if the room holds it; if not, the room is cleared. What the room held before does not
-// matter.
+// matter. The numbers that the records have while the chart is built are cleared at its end.
 pub fn build_chart(card: &[u8], words: &[u8; 24], n: usize, chart: &mut [u8]) -> Built
     requires { ⌜ Buildable (now card) (now words) n ⌝ }
     ensures { λ r. ⌜ BuiltRoom (now (card .entry)) (take n (now (words .entry))) n r (now (chart .entry)) (now (chart .exit)) ⌝ }
@@ -27,5 +27,6 @@ pub fn build_chart(card: &[u8], words: &[u8; 24], n: usize, chart: &mut [u8]) ->
         records::room::clear(chart);
         return Built::TooMany;
     }
+    records::room::settle(chart, count);
     Built::Chart(count)
 }

@@ -3,8 +3,8 @@ use card::Production;
 use card::productions::Fields;
 ghost use mathlib.Core.Path.{_≡_};
 ghost use Prim.Native.Nat.{_≤_, _<_};
-ghost use lib.ListN.{getD, replicate};
-ghost use Rattle.layout.specs.Card.{ruleOf};
+ghost use lib.ListN.{length, getD, replicate};
+ghost use Rattle.layout.specs.Card.{wordCount, productionAt, ruleOf};
 ghost use Rattle.card.specs.Productions.{ruleFrom};
 ghost use Rattle.chart_model.specs.Build.{dependentFirst};
 ghost use Rattle.chart.specs.Tables.{packedRule};
@@ -19,14 +19,14 @@ fn pack(f: Fields) -> u64
     first + 65536 * second + 4294967296 * (f.g as u64)
 }
 
-// The first `many` productions, in a table that is all 0.
-pub fn decode_all(card: &[u8], many: usize, rules: &mut [u64; 64])
-    requires { ⌜ (many ≤ 64) × (now rules ≡ replicate 64 0) ⌝ }
+// The first `many` productions of a card with so many words, in a table that is all 0.
+pub fn decode_all(card: &[u8], words: usize, many: usize, rules: &mut [u64; 64])
+    requires { ⌜ (words ≡ wordCount (now card)) × (productionAt (now card) many ≤ length (now card)) × (many ≤ 64) × (now rules ≡ replicate 64 0) ⌝ }
     ensures { λ u. ⌜ DecodedAll (now (card .entry)) many (now (rules .exit)) ⌝ }
 {
     let mut m = 0;
     while m < many {
-        let f = card::productions::fields_of(card, m);
+        let f = card::productions::fields_in(card, words, m);
         rules[m] = pack(f);
         m += 1;
     }

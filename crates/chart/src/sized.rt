@@ -23,13 +23,13 @@ fn build_with(
     sets: &mut [u64],
 ) -> usize
     requires { ⌜ Buildable (now card) (now words) n × RoomLent room (now chart) × TablesLent n (nonterminalCount (now card)) (now marks) (now index) (now sets) (now covers) ⌝ }
-    ensures { λ r. ⌜ Closed room (build room (grammarOf (now (card .entry))) (wordIs (take n (now (words .entry)))) (nonterminalCount (now (card .entry))) n) (now (chart .entry)) (now (chart .exit)) r ⌝ }
+    ensures { λ r. ⌜ Closed n (nonterminalCount (now (card .entry))) room (build room (grammarOf (now (card .entry))) (wordIs (take n (now (words .entry)))) (nonterminalCount (now (card .entry))) n) (now (chart .entry)) (now (chart .exit)) r ⌝ }
 {
     let counts = Card::of(card);
     let many = counts.productions;
     let symbols = counts.nonterminals;
     let mut rules = [0u64; 64];
-    crate::rules::decode_all(card, many, &mut rules);
+    crate::rules::decode_all(card, counts.words, many, &mut rules);
     let mut by = [0u64; 112];
     crate::sets::classify(&rules, many, &mut by);
     let mut both = [0u64; 25];
@@ -52,9 +52,9 @@ fn build_with(
 
 fn build_least(card: &[u8], words: &[u8; 24], n: usize, room: usize, chart: &mut [u8]) -> usize
     requires { ⌜ Buildable (now card) (now words) n × RoomLent room (now chart) × (n ≤ 4) × (nonterminalCount (now card) ≤ 6) ⌝ }
-    ensures { λ r. ⌜ Closed room (build room (grammarOf (now (card .entry))) (wordIs (take n (now (words .entry)))) (nonterminalCount (now (card .entry))) n) (now (chart .entry)) (now (chart .exit)) r ⌝ }
+    ensures { λ r. ⌜ Closed n (nonterminalCount (now (card .entry))) room (build room (grammarOf (now (card .entry))) (wordIs (take n (now (words .entry)))) (nonterminalCount (now (card .entry))) n) (now (chart .entry)) (now (chart .exit)) r ⌝ }
 {
-    let mut marks = [0u8; 97];
+    let mut marks = [0u8; 61];
     let mut index = [0u16; 180];
     let mut covers = [0u16; 60];
     let mut sets = [0u64; 30];
@@ -73,9 +73,9 @@ fn build_least(card: &[u8], words: &[u8; 24], n: usize, room: usize, chart: &mut
 
 fn build_short(card: &[u8], words: &[u8; 24], n: usize, room: usize, chart: &mut [u8]) -> usize
     requires { ⌜ Buildable (now card) (now words) n × RoomLent room (now chart) × (n ≤ 6) ⌝ }
-    ensures { λ r. ⌜ Closed room (build room (grammarOf (now (card .entry))) (wordIs (take n (now (words .entry)))) (nonterminalCount (now (card .entry))) n) (now (chart .entry)) (now (chart .exit)) r ⌝ }
+    ensures { λ r. ⌜ Closed n (nonterminalCount (now (card .entry))) room (build room (grammarOf (now (card .entry))) (wordIs (take n (now (words .entry)))) (nonterminalCount (now (card .entry))) n) (now (chart .entry)) (now (chart .exit)) r ⌝ }
 {
-    let mut marks = [0u8; 577];
+    let mut marks = [0u8; 337];
     let mut index = [0u16; 1008];
     let mut covers = [0u16; 336];
     let mut sets = [0u64; 56];
@@ -94,9 +94,9 @@ fn build_short(card: &[u8], words: &[u8; 24], n: usize, room: usize, chart: &mut
 
 fn build_middle_few(card: &[u8], words: &[u8; 24], n: usize, room: usize, chart: &mut [u8]) -> usize
     requires { ⌜ Buildable (now card) (now words) n × RoomLent room (now chart) × (n ≤ 12) × (nonterminalCount (now card) ≤ 6) ⌝ }
-    ensures { λ r. ⌜ Closed room (build room (grammarOf (now (card .entry))) (wordIs (take n (now (words .entry)))) (nonterminalCount (now (card .entry))) n) (now (chart .entry)) (now (chart .exit)) r ⌝ }
+    ensures { λ r. ⌜ Closed n (nonterminalCount (now (card .entry))) room (build room (grammarOf (now (card .entry))) (wordIs (take n (now (words .entry)))) (nonterminalCount (now (card .entry))) n) (now (chart .entry)) (now (chart .exit)) r ⌝ }
 {
-    let mut marks = [0u8; 865];
+    let mut marks = [0u8; 469];
     let mut index = [0u16; 1404];
     let mut covers = [0u16; 468];
     let mut sets = [0u64; 182];
@@ -115,9 +115,9 @@ fn build_middle_few(card: &[u8], words: &[u8; 24], n: usize, room: usize, chart:
 
 fn build_middle(card: &[u8], words: &[u8; 24], n: usize, room: usize, chart: &mut [u8]) -> usize
     requires { ⌜ Buildable (now card) (now words) n × RoomLent room (now chart) × (n ≤ 12) ⌝ }
-    ensures { λ r. ⌜ Closed room (build room (grammarOf (now (card .entry))) (wordIs (take n (now (words .entry)))) (nonterminalCount (now (card .entry))) n) (now (chart .entry)) (now (chart .exit)) r ⌝ }
+    ensures { λ r. ⌜ Closed n (nonterminalCount (now (card .entry))) room (build room (grammarOf (now (card .entry))) (wordIs (take n (now (words .entry)))) (nonterminalCount (now (card .entry))) n) (now (chart .entry)) (now (chart .exit)) r ⌝ }
 {
-    let mut marks = [0u8; 2305];
+    let mut marks = [0u8; 1249];
     let mut index = [0u16; 3744];
     let mut covers = [0u16; 1248];
     let mut sets = [0u64; 182];
@@ -136,9 +136,9 @@ fn build_middle(card: &[u8], words: &[u8; 24], n: usize, room: usize, chart: &mu
 
 fn build_long_few(card: &[u8], words: &[u8; 24], n: usize, room: usize, chart: &mut [u8]) -> usize
     requires { ⌜ Buildable (now card) (now words) n × RoomLent room (now chart) × (nonterminalCount (now card) ≤ 6) ⌝ }
-    ensures { λ r. ⌜ Closed room (build room (grammarOf (now (card .entry))) (wordIs (take n (now (words .entry)))) (nonterminalCount (now (card .entry))) n) (now (chart .entry)) (now (chart .exit)) r ⌝ }
+    ensures { λ r. ⌜ Closed n (nonterminalCount (now (card .entry))) room (build room (grammarOf (now (card .entry))) (wordIs (take n (now (words .entry)))) (nonterminalCount (now (card .entry))) n) (now (chart .entry)) (now (chart .exit)) r ⌝ }
 {
-    let mut marks = [0u8; 3457];
+    let mut marks = [0u8; 1801];
     let mut index = [0u16; 5400];
     let mut covers = [0u16; 1800];
     let mut sets = [0u64; 650];
@@ -157,9 +157,9 @@ fn build_long_few(card: &[u8], words: &[u8; 24], n: usize, room: usize, chart: &
 
 fn build_long(card: &[u8], words: &[u8; 24], n: usize, room: usize, chart: &mut [u8]) -> usize
     requires { ⌜ Buildable (now card) (now words) n × RoomLent room (now chart) ⌝ }
-    ensures { λ r. ⌜ Closed room (build room (grammarOf (now (card .entry))) (wordIs (take n (now (words .entry)))) (nonterminalCount (now (card .entry))) n) (now (chart .entry)) (now (chart .exit)) r ⌝ }
+    ensures { λ r. ⌜ Closed n (nonterminalCount (now (card .entry))) room (build room (grammarOf (now (card .entry))) (wordIs (take n (now (words .entry)))) (nonterminalCount (now (card .entry))) n) (now (chart .entry)) (now (chart .exit)) r ⌝ }
 {
-    let mut marks = [0u8; 9217];
+    let mut marks = [0u8; 4801];
     let mut index = [0u16; 14400];
     let mut covers = [0u16; 4800];
     let mut sets = [0u64; 650];
@@ -178,7 +178,7 @@ fn build_long(card: &[u8], words: &[u8; 24], n: usize, room: usize, chart: &mut 
 
 pub fn build_in(card: &[u8], words: &[u8; 24], n: usize, room: usize, chart: &mut [u8]) -> usize
     requires { ⌜ Buildable (now card) (now words) n × RoomLent room (now chart) ⌝ }
-    ensures { λ r. ⌜ Closed room (build room (grammarOf (now (card .entry))) (wordIs (take n (now (words .entry)))) (nonterminalCount (now (card .entry))) n) (now (chart .entry)) (now (chart .exit)) r ⌝ }
+    ensures { λ r. ⌜ Closed n (nonterminalCount (now (card .entry))) room (build room (grammarOf (now (card .entry))) (wordIs (take n (now (words .entry)))) (nonterminalCount (now (card .entry))) n) (now (chart .entry)) (now (chart .exit)) r ⌝ }
 {
     let symbols = Card::of(card).nonterminals;
     if n <= 4 {

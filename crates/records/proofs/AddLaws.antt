@@ -12,10 +12,10 @@ use Rattle.grammar.specs.Items.{Foot}
 use Rattle.grammar.specs.ItemList.{Item, item, sameFoot, sameItem, among}
 use Rattle.grammar.specs.Chart.{Record, recorded, itemOf}
 use Rattle.grammar.proofs.ListLaws.{eqb-self}
-use Rattle.layout.specs.Records.{recordBytes, chartBytes}
 use Rattle.chart_model.specs.Build.{added, addEach}
-use Rattle.records.specs.Room.{recordAt, chartIn, stateOf, FootFits, FeetFit, markOf, MarkAdded, Marked, Working, Added}
-use Rattle.records.proofs.RoomLaws.{map-append, chart-length, chart-more, chart-kept, chart-bytes-last, written, written-length, written-kept, written-taken, written-rest, written-record}
+use Rattle.records.specs.Room.{recordAt, chartIn, stateOf, FootFits, FeetFit, footNumber, numbered, numberedChart, markOf, MarkAdded, Marked, Working, Added}
+use Rattle.records.proofs.RoomLaws.{map-append, chart-length, chart-more, chart-kept, numbered-length, concatMap-last, placed, placed-length, placed-kept, placed-taken, placed-rest, numbered-record}
+use Rattle.records.proofs.MarkLaws.{same-number}
 
 -- The model's state of a room whose count fits, and of one that is over.
 pub state-fits : (room : ℕ) (bytes : List ℕ) (count : ℕ) → count ≤ room → stateOf room bytes count ≡ some (chartIn bytes count)
@@ -74,10 +74,10 @@ module _ (n N room A i j : ℕ) (old marks : List ℕ) (count : ℕ) (w : Workin
   one = recorded (item A i j φ) p x y z
 
   -- The mark says whether the item is there.
-  there : (b : Bool) → markOf n marks φ ≡ b → among (item A i j φ) (map itemOf (chartIn old count)) ≡ b
+  there : (b : Bool) → markOf n N marks φ ≡ b → among (item A i j φ) (map itemOf (chartIn old count)) ≡ b
   there b e = sym (w .marked φ fits) ∙ e
 
-  pub added-seen : markOf n marks φ ≡ true → Added n N room A i j (one ∷ []) old marks count old marks count
+  pub added-seen : markOf n N marks φ ≡ true → Added n N room A i j (one ∷ []) old marks count old marks count
   added-seen e =
       record {
         sameRoom = refl;
@@ -89,7 +89,7 @@ module _ (n N room A i j : ℕ) (old marks : List ℕ) (count : ℕ) (w : Workin
         works = λ _. w;
       }
 
-  pub added-full : markOf n marks φ ≡ false → room ≤ count → Added n N room A i j (one ∷ []) old marks count old marks (room + 1)
+  pub added-full : markOf n N marks φ ≡ false → room ≤ count → Added n N room A i j (one ∷ []) old marks count old marks (room + 1)
   added-full e h =
       record {
         sameRoom = refl;
@@ -102,39 +102,43 @@ module _ (n N room A i j : ℕ) (old marks : List ℕ) (count : ℕ) (w : Workin
         works = λ l. absurd (omega arith);
       }
 
-  module _ (new : List ℕ) (marks′ : List ℕ) (h : count < room) (so : new ≡ written old count one) (more : MarkAdded n φ marks marks′) where
+  module _ (new : List ℕ) (marks′ : List ℕ) (h : count < room) (so : new ≡ placed old count (numbered n N one))
+      (more : MarkAdded (footNumber n N φ) marks marks′) where
     within : 16 * count + 16 ≤ length old
     within = omega (arith, w .roomThere)
 
+    long : length (numbered n N one) ≡ 16
+    long = numbered-length n N one
+
     new-kept : take (16 * count) new ≡ take (16 * count) old
-    new-kept = ap (take (16 * count)) so ∙ written-kept old count one within
+    new-kept = ap (take (16 * count)) so ∙ placed-kept old count (numbered n N one) long within
 
     new-length : length new ≡ length old
-    new-length = ap length so ∙ written-length old count one within
+    new-length = ap length so ∙ placed-length old count (numbered n N one) long within
 
     new-chart : chartIn new (count + 1) ≡ chartIn old count ++ (one ∷ [])
     new-chart =
         chart-more new count
         ∙ ap₂ (λ (c : List Record) (r : Record). c ++ (r ∷ [])) (chart-kept old new count new-kept)
-        (ap (λ (l : List ℕ). recordAt l count) so ∙ written-record old count n N A i j φ p x y z within fits)
+        (ap (λ (l : List ℕ). recordAt l count) so ∙ numbered-record old count n N A i j φ p x y z within fits)
 
-    new-exact : take (16 * (count + 1)) new ≡ chartBytes (chartIn new (count + 1))
+    new-exact : take (16 * (count + 1)) new ≡ numberedChart n N (chartIn new (count + 1))
     new-exact =
-        ap (take (16 * (count + 1))) so ∙ written-taken old count one within
-        ∙ ap (λ (l : List ℕ). l ++ recordBytes one) (w .exact) ∙ sym (chart-bytes-last (chartIn old count) one)
-        ∙ ap chartBytes (sym new-chart)
+        ap (take (16 * (count + 1))) so ∙ placed-taken old count (numbered n N one) long within
+        ∙ ap (λ (l : List ℕ). l ++ numbered n N one) (w .exact) ∙ sym (concatMap-last (numbered n N) (chartIn old count) one)
+        ∙ ap (numberedChart n N) (sym new-chart)
 
     new-marked : Marked n N A i j (chartIn new (count + 1)) marks′
     new-marked ψ f =
-        more .others N ψ f
-        ∙ ap₂ (λ (a b : Bool). a || b) (sym (same-cell A i j ψ φ)) (w .marked ψ f)
+        more .others (footNumber n N ψ)
+        ∙ ap₂ (λ (a b : Bool). a || b) (same-number n N ψ φ f fits ∙ sym (same-cell A i j ψ φ)) (w .marked ψ f)
         ∙ sym (among-last (item A i j ψ) (item A i j φ) (map itemOf (chartIn old count)))
         ∙ ap (among (item A i j ψ)) (sym (ap (map itemOf) new-chart ∙ map-append itemOf (chartIn old count) (one ∷ [])))
 
     new-feet : FeetFit n N (chartIn new (count + 1))
     new-feet = subst (FeetFit n N) (sym new-chart) (feet-last n N (chartIn old count) A i j φ p x y z (w .feet) fits)
 
-    pub added-new : markOf n marks φ ≡ false → Added n N room A i j (one ∷ []) old marks count new marks′ (count + 1)
+    pub added-new : markOf n N marks φ ≡ false → Added n N room A i j (one ∷ []) old marks count new marks′ (count + 1)
     added-new e =
         record {
           sameRoom = new-length;
@@ -143,7 +147,7 @@ module _ (n N room A i j : ℕ) (old marks : List ℕ) (count : ℕ) (w : Workin
           kept = new-kept;
           model = state-fits room new (count + 1) (omega arith) ∙ ap some new-chart
               ∙ sym (adds-new room one (chartIn old count) (there false e) (omega (arith, chart-length old count)));
-          rest = λ _. ap (drop (16 * (count + 1))) so ∙ written-rest old count one within;
+          rest = λ _. ap (drop (16 * (count + 1))) so ∙ placed-rest old count (numbered n N one) long within;
           works = λ _. record {
             wordsFit = w .wordsFit;
             symbolsFit = w .symbolsFit;

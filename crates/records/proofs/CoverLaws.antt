@@ -7,12 +7,12 @@ use native.Mathlib.Decide.{ℕ-discrete}
 use native.Mathlib.Omega.{arith}
 use mathlib.Core.Path.{_≡_, refl, sym, _∙_, ap, subst, subst₃}
 use mathlib.Core.Logic.{_⊎_, inl, inr}
-use mathlib.Core.Bool.{Bool, true, false, _||_, false≢true}
+use mathlib.Core.Bool.{Bool, true, false, cond, _||_, false≢true}
 use mathlib.Core.List.{List, [], _∷_, _++_, List·Memᴰ, List·Memᴰ·head, List·Memᴰ·tail, List·Memᴰ·not-nil, List·Memᴰ·cases-cons, List·Memᴰ·append-cases, List·Memᴰ·eq-of-singleton, Memᴰ·append-left, Memᴰ·append-right, Memᴰ·cast}
 use mathlib.Core.Option.{some}
 use lib.Dec.{eqb}
 use lib.ListN.{length, getD, set, length-set, replicate, getD-replicate}
-use lib.Seq.{getD-set-same, getD-set-other}
+use lib.Seq.{getD-set-same, getD-set-other, set-getD}
 use borrow.Author.Tests.{eqb-true, eq-eqb, ne-eqb}
 use Rattle.grammar.specs.Items.{Foot}
 use Rattle.grammar.specs.ItemList.{Item, item}
@@ -26,7 +26,7 @@ use Rattle.chart_model.proofs.Candidates.{in-places, places-in}
 use Rattle.chart_model.proofs.FillModel.{InCell, IsCell, Grown, same, more}
 use Rattle.records.specs.Room.{recordAt, chartIn}
 use Rattle.records.specs.Index.{spans, cellAt, SpanFits}
-use Rattle.records.specs.Cover.{CoversIn, Coverer, present, Covering, Covered, reaches, coveredIn}
+use Rattle.records.specs.Cover.{CoversIn, Coverer, present, Covering, Covered, reaches, coveredIn, notedAnew}
 use Rattle.records.specs.Cover
 use Rattle.records.proofs.TableLaws.{cell-below, cell-same}
 use Rattle.records.proofs.RoomLaws.{chart-more}
@@ -139,6 +139,17 @@ reaches-there covers own (suc m) d e =
     let less : suc m - 1 ≡ m = omega arith in
     rw (less, ne-eqb m own (λ q. e (omega arith)), add-one)
 
+-- The table that the code leaves: as it was, whether the place is covered by no cell or by the number that it has already, or noted.
+pub left-as-is : (covers : List ℕ) (own at : ℕ) → coveredIn covers own at ≡ false → covers ≡ notedAnew covers own at
+left-as-is covers own at e = rw (e, notedAnew)
+
+pub noted-already : (covers : List ℕ) (own at : ℕ) → coveredIn covers own at ≡ true → getD covers at 0 ≡ own + 1
+    → covers ≡ notedAnew covers own at
+noted-already covers own at e d = rw (e, notedAnew) (sym (set-getD covers at 0) ∙ ap (set covers at) (d ∙ add-one own))
+
+pub noted-now : (covers : List ℕ) (own at : ℕ) → coveredIn covers own at ≡ true → set covers at (own + 1) ≡ notedAnew covers own at
+noted-now covers own at e = rw (e, notedAnew, add-one)
+
 either-true : (x y : Bool) → (x || y) ≡ true → (x ≡ true) ⊎ (y ≡ true)
 either-true true y e = inl refl
 either-true false y e = inr e
@@ -246,6 +257,19 @@ module _ {n N A i j : ℕ} {b c : List Record} {covers : List ℕ} (t : Covering
             absurd (some-there (subst₃ (λ (B p q : ℕ). places b B p q ≡ []) u v w e))
         | no d ↦ getD-set-other covers at (cellAt N B p q) own 0 d ∙ t .empty B p q s e
       ]
+
+  -- So is a cell that the test finds covered: its entry is not 0, so it has records.
+  pub covering-anew : SpanFits n N A i j → ((x : Item) → Has b x → Has c x) → {D k m : ℕ} → SpanFits n N D k m
+      → Covering n N A i j b c (notedAnew covers (cellAt N A i j) (cellAt N D k m))
+  covering-anew fits wider {D} {k} {m} f = go (coveredIn covers (cellAt N A i j) (cellAt N D k m)) refl
+    where
+      has-records : coveredIn covers (cellAt N A i j) (cellAt N D k m) ≡ true → places b D k m ≡ [] → ⊥
+      has-records e none = false≢true (sym (reaches-none covers (cellAt N A i j) (t .empty D k m f none)) ∙ e)
+
+      go : (v : Bool) → coveredIn covers (cellAt N A i j) (cellAt N D k m) ≡ v
+          → Covering n N A i j b c (cond v (set covers (cellAt N D k m) (suc (cellAt N A i j))) covers)
+      go true e = covering-note f (covered-sound fits wider f e) (has-records e)
+      go false e = t
 
 -- A cell is begun; and before all cells the table has zeros.
 pub start-covering : {n N : ℕ} {b : List Record} {covers : List ℕ} (A i j : ℕ) → Covered n N b covers → Covering n N A i j b b covers

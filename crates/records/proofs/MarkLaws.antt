@@ -1,6 +1,6 @@
--- Marks. A foot's mark is one bit of one byte, no two feet share one, so a bit that is set marks one foot and leaves the others.
--- The byte is looked up by its place, and the bit is a power of 2.
-use Prim.Native.Nat.{ℕ, _+_, _*_, _%_, _^_, _<_}
+-- Marks. A number's mark is one bit of one byte, no two numbers share one, so a bit that is set marks one number and leaves the others;
+-- and no two feet share a number. The byte is looked up by its place, and the bit is a power of 2.
+use Prim.Native.Nat.{ℕ, _/_, _%_, _^_, _<_}
 use native.Mathlib.Omega.{arith}
 use native.Mathlib.Decide.{ℕ-discrete}
 use mathlib.Core.Path.{_≡_, refl, sym, _∙_, ap}
@@ -16,9 +16,9 @@ use Rattle.grammar.specs.ItemList.{item, sameFoot, among}
 use Rattle.grammar.proofs.ListLaws.{eqb-self}
 use Rattle.grammar.proofs.ItemTests.{among-true}
 use Rattle.records.specs.Bits.{holdsBit}
-use Rattle.records.specs.Room.{footOf, FootFits, markSlot, markBit, markOf, MarkAdded}
+use Rattle.records.specs.Room.{FootFits, footNumber, markAt, MarkAdded}
 use Rattle.records.proofs.BitLaws.{test-bit, holdsBit-more}
-use Rattle.records.proofs.TableLaws.{mark-same}
+use Rattle.records.proofs.TableLaws.{number-same}
 
 -- The test on feet is equality.
 same-self : (φ : Foot) → sameFoot φ φ ≡ true
@@ -42,54 +42,43 @@ same-false φ ψ h = go (sameFoot φ ψ) refl
     go true e = absurd (h (true-same φ ψ e))
     go false e = e
 
--- The power that the code makes of an index.
-pub power-at : (γ B p q : ℕ) → 2 ^ (γ % 8) ≡ 2 ^ markBit (footOf γ B p q)
-power-at γ B p q = elim (ℕ-discrete γ 0) [ yes e ↦ rw e | no d ↦ rw (ne-eqb γ 0 d) ]
-
--- Feet as the code has them: without an index the byte is 0.
-pub slot-without : (n γ B p q : ℕ) → γ ≡ 0 → markSlot n (footOf γ B p q) ≡ 0
-slot-without n γ B p q e = rw (eq-eqb γ 0 e)
-
-pub slot-with : (n γ B p q : ℕ) → (γ ≡ 0 → ⊥) → markSlot n (footOf γ B p q) ≡ (B * n + p) * n + q
-slot-with n γ B p q d = rw (ne-eqb γ 0 d)
+-- So it may be made on their numbers.
+pub same-number : (n N : ℕ) (φ ψ : Foot) → FootFits n N φ → FootFits n N ψ → eqb (footNumber n N φ) (footNumber n N ψ) ≡ sameFoot φ ψ
+same-number n N φ ψ h k = elim (ℕ-discrete (footNumber n N φ) (footNumber n N ψ)) [
+  | yes e ↦ eq-eqb _ _ e ∙ sym (same-true (number-same n N φ ψ h k e))
+  | no d ↦ ne-eqb _ _ d ∙ sym (same-false φ ψ (λ s. d (ap (footNumber n N) s)))
+]
 
 -- Looking at a mark, and setting it.
-pub mark-seen : (n : ℕ) (marks : List ℕ) (γ B p q : ℕ) {at bit : ℕ} → at ≡ markSlot n (footOf γ B p q) → bit ≡ 2 ^ (γ % 8)
-    → not (eqb (bitAnd (getD marks at 0) bit) 0) ≡ markOf n marks (footOf γ B p q)
-mark-seen n marks γ B p q e d =
-    let φ = footOf γ B p q in rw (e, d, power-at γ B p q) (test-bit (markBit φ) (getD marks (markSlot n φ) 0))
+pub mark-seen : (marks : List ℕ) (number : ℕ) {bit : ℕ} → bit ≡ 2 ^ (number % 8)
+    → not (eqb (bitAnd (getD marks (number / 8) 0) bit) 0) ≡ markAt marks number
+mark-seen marks number d = rw d (test-bit (number % 8) (getD marks (number / 8) 0))
 
-module _ (n N : ℕ) (ψ : Foot) (old : List ℕ) (fits : FootFits n N ψ) (inside : markSlot n ψ < length old) where
+module _ (number : ℕ) (old : List ℕ) (inside : number / 8 < length old) where
   abbrev byte : ℕ
-  byte = bitOr (getD old (markSlot n ψ) 0) (2 ^ markBit ψ)
+  byte = bitOr (getD old (number / 8) 0) (2 ^ (number % 8))
 
   abbrev after : List ℕ
-  after = set old (markSlot n ψ) byte
+  after = set old (number / 8) byte
 
-  here : (M : ℕ) (φ : Foot) → FootFits n M φ → markSlot n φ ≡ markSlot n ψ → eqb (markBit φ) (markBit ψ) ≡ sameFoot φ ψ
-  here M φ h e = elim (ℕ-discrete (markBit φ) (markBit ψ)) [
-    | yes b ↦ eq-eqb _ _ b ∙ sym (same-true (mark-same n M N φ ψ h fits e b))
-    | no d ↦ ne-eqb _ _ d ∙ sym (same-false φ ψ (λ s. d (ap markBit s)))
+  here : (k : ℕ) → k / 8 ≡ number / 8 → eqb (k % 8) (number % 8) ≡ eqb k number
+  here k e = elim (ℕ-discrete k number) [
+    | yes s ↦ eq-eqb _ _ (ap (λ (m : ℕ). m % 8) s) ∙ sym (eq-eqb _ _ s)
+    | no d ↦ ne-eqb _ _ (λ (s : k % 8 ≡ number % 8). d (omega arith)) ∙ sym (ne-eqb _ _ d)
   ]
 
-  others : (M : ℕ) (φ : Foot) → FootFits n M φ → markOf n after φ ≡ (sameFoot φ ψ || markOf n old φ)
-  others M φ h = elim (ℕ-discrete (markSlot n φ) (markSlot n ψ)) [
+  others : (k : ℕ) → markAt after k ≡ (eqb k number || markAt old k)
+  others k = elim (ℕ-discrete (k / 8) (number / 8)) [
     | yes e ↦
-        let there : getD after (markSlot n φ) 0 ≡ bitOr (getD old (markSlot n φ) 0) (2 ^ markBit ψ) =
-        rw e (getD-set-same old (markSlot n ψ) byte 0 inside)
+        let there : getD after (k / 8) 0 ≡ bitOr (getD old (k / 8) 0) (2 ^ (number % 8)) =
+        rw e (getD-set-same old (number / 8) byte 0 inside)
         in
-        ap (holdsBit (markBit φ)) there ∙ holdsBit-more (markBit φ) (markBit ψ) (getD old (markSlot n φ) 0)
-        ∙ ap (λ (b : Bool). b || markOf n old φ) (here M φ h e)
+        ap (holdsBit (k % 8)) there ∙ holdsBit-more (k % 8) (number % 8) (getD old (k / 8) 0)
+        ∙ ap (λ (b : Bool). b || markAt old k) (here k e)
     | no d ↦
-        ap (holdsBit (markBit φ)) (getD-set-other old (markSlot n ψ) (markSlot n φ) byte 0 d)
-        ∙ ap (λ (b : Bool). b || markOf n old φ) (sym (same-false φ ψ (λ s. d (ap (markSlot n) s))))
+        ap (holdsBit (k % 8)) (getD-set-other old (number / 8) (k / 8) byte 0 d)
+        ∙ ap (λ (b : Bool). b || markAt old k) (sym (ne-eqb k number (λ s. d (ap (λ (m : ℕ). m / 8) s))))
   ]
 
-  pub mark-added : MarkAdded n ψ old after
-  mark-added = record { sameLength = simp length-set; others = others }
-
-pub mark-set : (n N : ℕ) (old : List ℕ) (γ B p q : ℕ) {at bit : ℕ} → at ≡ markSlot n (footOf γ B p q) → bit ≡ 2 ^ (γ % 8)
-    → FootFits n N (footOf γ B p q) → markSlot n (footOf γ B p q) < length old
-    → MarkAdded n (footOf γ B p q) old (set old at (bitOr (getD old at 0) bit))
-mark-set n N old γ B p q e d fits inside =
-    rw (e, d, power-at γ B p q) (mark-added n N (footOf γ B p q) old fits inside)
+  pub mark-set : {bit : ℕ} → bit ≡ 2 ^ (number % 8) → MarkAdded number old (set old (number / 8) (bitOr (getD old (number / 8) 0) bit))
+  mark-set d = rw d (record { sameLength = simp length-set; others = others })

@@ -5,24 +5,22 @@ use native.Mathlib.Nat.{zero-add, add-zero, suc-add, add-suc, add-assoc}
 use native.Mathlib.Numerals.{add-one}
 use native.Mathlib.Omega.{arith}
 use mathlib.Core.Path.{_≡_, refl, sym, _∙_, ap, ap₂}
-use mathlib.Core.Bool.{Bool, true, false, cond}
+use mathlib.Core.Bool.{Bool, true, false, cond, false≢true}
 use mathlib.Core.List.{List, [], _∷_, _++_, map, append-assoc, append-nil}
 use mathlib.Core.Option.{some}
-use lib.Dec.{eqb}
-use lib.ListN.{length, getD, getElem?, take, drop, length-append, length-drop, length-map}
+use lib.ListN.{length, getD, getElem?, take, drop, length-append, length-drop, length-map, List·getD-append}
 use lib.Seq.{getD-take, take-take, take-at, drop-at, getD-append-add, length-take-le, take-all, paste}
-use borrow.Author.Tests.{ne-eqb}
+use borrow.Author.Tests.{eq-eqb, ne-eqb}
 use Rattle.grammar.specs.Items.{Foot, bare, foot}
-use Rattle.grammar.specs.ItemList.{item}
+use Rattle.grammar.specs.ItemList.{item, isBare}
 use Rattle.grammar.specs.Chart.{Record, recorded}
+use Rattle.grammar.specs.Lists.{concatMap}
 use Rattle.grammar.proofs.ListLaws.{length-concatMap}
+use Rattle.grammar.proofs.StandsLaws.{none-some, some-same}
 use Rattle.layout.specs.Bytes.{byteAt, wordAt, counted, lowByte, highByte}
 use Rattle.layout.specs.Records.{recordBytes, chartBytes}
 use Rattle.chart_model.specs.Build.{footIn, footAt}
-use Rattle.records.specs.declared.record.Cell.{Cell}
-use Rattle.records.specs.declared.record.Foot as declared
-use Rattle.records.specs.declared.record.Step.{Step}
-use Rattle.records.specs.Room.{footOf, footThere, recordAt, chartIn, recordFrom, FootFits}
+use Rattle.records.specs.Room.{footOf, footThere, recordAt, chartIn, FootFits, footFields, Writable, footNumber, numbered, numberedChart, numberThere}
 
 -- A function over places that are counted: how many, one more, at one place, and by another function that agrees there.
 pub length-counted : (k n : ℕ) → length (counted k n) ≡ n
@@ -100,7 +98,7 @@ chart-kept old new n e =
 pub chart-kept-below : (old new : List ℕ) (m n : ℕ) → m ≤ n → take (16 * n) new ≡ take (16 * n) old → chartIn new m ≡ chartIn old m
 chart-kept-below old new m n h e = chart-kept old new m (take-less old new (16 * m) (16 * n) (omega arith) e)
 
--- The bytes of a chart.
+-- The bytes of a chart, and those of one whose records have numbers.
 pub record-bytes-length : (r : Record) → length (recordBytes r) ≡ 16
 record-bytes-length (recorded (item A i j bare) p x y z) = refl
 record-bytes-length (recorded (item A i j (foot γ B q t)) p x y z) = refl
@@ -108,12 +106,16 @@ record-bytes-length (recorded (item A i j (foot γ B q t)) p x y z) = refl
 pub chart-bytes-length : (c : List Record) → length (chartBytes c) ≡ 16 * length c
 chart-bytes-length c = omega (arith, length-concatMap recordBytes 16 record-bytes-length c)
 
-pub chart-bytes-append : (c d : List Record) → chartBytes (c ++ d) ≡ chartBytes c ++ chartBytes d
-chart-bytes-append [] d = refl
-chart-bytes-append (r ∷ c) d = rw (chart-bytes-append c d, append-assoc)
+pub numbered-length : (n N : ℕ) (r : Record) → length (numbered n N r) ≡ 16
+numbered-length n N (recorded (item A i j bare) p x y z) = refl
+numbered-length n N (recorded (item A i j (foot γ B q t)) p x y z) = refl
 
-pub chart-bytes-last : (c : List Record) (r : Record) → chartBytes (c ++ (r ∷ [])) ≡ chartBytes c ++ recordBytes r
-chart-bytes-last c r = chart-bytes-append c (r ∷ []) ∙ ap (λ (l : List ℕ). chartBytes c ++ l) (append-nil (recordBytes r))
+pub numbered-chart-length : (n N : ℕ) (c : List Record) → length (numberedChart n N c) ≡ 16 * length c
+numbered-chart-length n N c = omega (arith, length-concatMap (numbered n N) 16 (numbered-length n N) c)
+
+pub concatMap-last : {A B : Type 0} (f : A → List B) (l : List A) (x : A) → concatMap f (l ++ (x ∷ [])) ≡ concatMap f l ++ f x
+concatMap-last f [] x = append-nil (f x)
+concatMap-last f (y ∷ l) x = rw (concatMap-last f l x, append-assoc)
 
 -- All of a source pasted into a room.
 pub pasted-whole : (d : List ℕ) (at : ℕ) (s : List ℕ) (n : ℕ) → length s ≡ n → paste d at s n ≡ take at d ++ (s ++ drop (at + n) d)
@@ -121,15 +123,18 @@ pasted-whole d at s n e =
     append-assoc (take at d) (take n s) (drop (at + n) d)
     ∙ ap (λ (l : List ℕ). take at d ++ (l ++ drop (at + n) d)) (take-all n s (omega arith))
 
--- A room after a record was written at position n.
+-- A room after 16 bytes were put at position n, as a record's.
+abbrev pub placed : List ℕ → ℕ → List ℕ → List ℕ
+placed old n bytes = take (16 * n) old ++ (bytes ++ drop (16 * n + 16) old)
+
 abbrev pub written : List ℕ → ℕ → Record → List ℕ
-written old n r = take (16 * n) old ++ (recordBytes r ++ drop (16 * n + 16) old)
+written old n r = placed old n (recordBytes r)
 
 -- The record that 16 bytes stand for.
 pub word-halves : (x : ℕ) → lowByte x + 256 * highByte x ≡ x
 word-halves x = omega arith
 
-read-word : (bytes : List ℕ) (at k v : ℕ) → byteAt bytes (at + k) ≡ lowByte v → byteAt bytes (at + (k + 1)) ≡ highByte v
+pub read-word : (bytes : List ℕ) (at k v : ℕ) → byteAt bytes (at + k) ≡ lowByte v → byteAt bytes (at + (k + 1)) ≡ highByte v
     → wordAt bytes (at + k) ≡ v
 read-word bytes at k v low high = rw (low, add-assoc, high) (word-halves v)
 
@@ -142,59 +147,100 @@ read-back bytes n A γ i j B q t p x y z rest h =
     let word = read-word bytes (16 * n) in
     rw (first, h 1, h 2, h 3, h 4, h 5, h 6, h 7, word 8 x (h 8) (h 9), word 10 y (h 10) (h 11), word 12 z (h 12) (h 13))
 
-module _ (old : List ℕ) (n : ℕ) (r : Record) (fits : 16 * n + 16 ≤ length old) where
+module _ (old : List ℕ) (n : ℕ) (bytes : List ℕ) (long : length bytes ≡ 16) (fits : 16 * n + 16 ≤ length old) where
   head-length : length (take (16 * n) old) ≡ 16 * n
   head-length = length-take-le (16 * n) old (omega arith)
 
-  pub written-length : length (written old n r) ≡ length old
-  written-length = simp (length-append, length-drop, head-length, record-bytes-length) (omega arith)
+  pub placed-length : length (placed old n bytes) ≡ length old
+  placed-length = simp (length-append, length-drop, head-length, long) (omega arith)
 
-  pub written-kept : take (16 * n) (written old n r) ≡ take (16 * n) old
-  written-kept = take-at (take (16 * n) old) _ (16 * n) head-length
+  pub placed-kept : take (16 * n) (placed old n bytes) ≡ take (16 * n) old
+  placed-kept = take-at (take (16 * n) old) _ (16 * n) head-length
 
-  front : length (take (16 * n) old ++ recordBytes r) ≡ 16 * (n + 1)
-  front = omega (arith, length-append (take (16 * n) old) (recordBytes r), head-length, record-bytes-length r)
+  front : length (take (16 * n) old ++ bytes) ≡ 16 * (n + 1)
+  front = omega (arith, length-append (take (16 * n) old) bytes, head-length, long)
 
-  pub written-taken : take (16 * (n + 1)) (written old n r) ≡ take (16 * n) old ++ recordBytes r
-  written-taken =
-      ap (take (16 * (n + 1))) (sym (append-assoc (take (16 * n) old) (recordBytes r) (drop (16 * n + 16) old)))
-      ∙ take-at (take (16 * n) old ++ recordBytes r) (drop (16 * n + 16) old) (16 * (n + 1)) front
+  pub placed-taken : take (16 * (n + 1)) (placed old n bytes) ≡ take (16 * n) old ++ bytes
+  placed-taken =
+      ap (take (16 * (n + 1))) (sym (append-assoc (take (16 * n) old) bytes (drop (16 * n + 16) old)))
+      ∙ take-at (take (16 * n) old ++ bytes) (drop (16 * n + 16) old) (16 * (n + 1)) front
 
-  pub written-rest : drop (16 * (n + 1)) (written old n r) ≡ drop (16 * (n + 1)) old
-  written-rest =
+  pub placed-rest : drop (16 * (n + 1)) (placed old n bytes) ≡ drop (16 * (n + 1)) old
+  placed-rest =
       let e : 16 * n + 16 ≡ 16 * (n + 1) = omega arith in
-      ap (drop (16 * (n + 1))) (sym (append-assoc (take (16 * n) old) (recordBytes r) (drop (16 * n + 16) old)))
-      ∙ drop-at (take (16 * n) old ++ recordBytes r) (drop (16 * n + 16) old) (16 * (n + 1)) front
+      ap (drop (16 * (n + 1))) (sym (append-assoc (take (16 * n) old) bytes (drop (16 * n + 16) old)))
+      ∙ drop-at (take (16 * n) old ++ bytes) (drop (16 * n + 16) old) (16 * (n + 1)) front
       ∙ ap (λ (k : ℕ). drop k old) e
 
-  written-byte : (k : ℕ) → byteAt (written old n r) (16 * n + k) ≡ byteAt (recordBytes r ++ drop (16 * n + 16) old) k
-  written-byte k =
-      ap (λ (m : ℕ). byteAt (written old n r) (m + k)) (sym head-length)
-      ∙ getD-append-add (take (16 * n) old) (recordBytes r ++ drop (16 * n + 16) old) k 0
+  placed-byte : (k : ℕ) → byteAt (placed old n bytes) (16 * n + k) ≡ byteAt (bytes ++ drop (16 * n + 16) old) k
+  placed-byte k =
+      ap (λ (m : ℕ). byteAt (placed old n bytes) (m + k)) (sym head-length)
+      ∙ getD-append-add (take (16 * n) old) (bytes ++ drop (16 * n + 16) old) k 0
 
--- It is read back.
-pub written-record : (old : List ℕ) (n w N A i j : ℕ) (φ : Foot) (p x y z : ℕ) → 16 * n + 16 ≤ length old → FootFits w N φ
-    → let r = recorded (item A i j φ) p x y z in recordAt (written old n r) n ≡ r
-written-record old n w N A i j bare p x y z h f =
-    let r = recorded (item A i j bare) p x y z in
-    read-back (written old n r) n A 0 i j 255 0 0 p x y z (0 ∷ 0 ∷ drop (16 * n + 16) old) (written-byte old n r h)
-written-record old n w N A i j (foot γ B q t) p x y z h (g, u, b, l, m) =
-    let r = recorded (item A i j (foot γ B q t)) p x y z in
-    read-back (written old n r) n A γ i j B q t p x y z (0 ∷ 0 ∷ drop (16 * n + 16) old) (written-byte old n r h)
+-- It is read back, whatever its last two bytes are.
+placed-record : (old : List ℕ) (n w N A i j : ℕ) (φ : Foot) (p x y z a b : ℕ) → 16 * n + 16 ≤ length old → FootFits w N φ
+    → let r = recorded (item A i j φ) p x y z in recordAt (placed old n (take 14 (recordBytes r) ++ (a ∷ b ∷ []))) n ≡ r
+placed-record old n w N A i j bare p x y z a b h f =
+    let bytes = take 14 (recordBytes (recorded (item A i j bare) p x y z)) ++ (a ∷ b ∷ []) in
+    read-back (placed old n bytes) n A 0 i j 255 0 0 p x y z (a ∷ b ∷ drop (16 * n + 16) old) (placed-byte old n bytes refl h)
+placed-record old n w N A i j (foot γ B q t) p x y z a b h (g, u, c, l, m) =
+    let bytes = take 14 (recordBytes (recorded (item A i j (foot γ B q t)) p x y z)) ++ (a ∷ b ∷ []) in
+    read-back (placed old n bytes) n A γ i j B q t p x y z (a ∷ b ∷ drop (16 * n + 16) old) (placed-byte old n bytes refl h)
     ∙ ap (λ (v : Bool). recorded (item A i j (cond v bare (foot γ B q t))) p x y z) (ne-eqb γ 0 (λ e. omega arith))
 
-pub written-from : (old : List ℕ) (n : ℕ) (c : Cell) (f : declared.Foot) (s : Step) → 16 * n + 16 ≤ length old
-    → recordAt (written old n (recordFrom c f s)) n ≡ recordFrom c f s
-written-from old n c f s h = go (eqb (f .index) 0) refl
-  where
-    made : Bool → Record
-    made v =
-        recorded (item (c .left) (c .from) (c .to) (cond v bare (foot (f .index) (f .symbol) (f .from) (f .to)))) (s .production)
-        (s .side) (s .dependent) (s .continuation)
+pub numbered-record : (old : List ℕ) (n w N A i j : ℕ) (φ : Foot) (p x y z : ℕ) → 16 * n + 16 ≤ length old → FootFits w N φ
+    → let r = recorded (item A i j φ) p x y z in recordAt (placed old n (numbered w N r)) n ≡ r
+numbered-record old n w N A i j φ p x y z h f =
+    placed-record old n w N A i j φ p x y z (lowByte (footNumber w N φ)) (highByte (footNumber w N φ)) h f
 
-    go : (v : Bool) → eqb (f .index) 0 ≡ v → recordAt (written old n (made v)) n ≡ made v
-    go true e = written-record old n 0 0 (c .left) (c .from) (c .to) bare (s .production) (s .side) (s .dependent) (s .continuation) h tt
-    go false e =
-        read-back (written old n (made false)) n (c .left) (f .index) (c .from) (c .to) (f .symbol) (f .from) (f .to) (s .production)
-        (s .side) (s .dependent) (s .continuation) (0 ∷ 0 ∷ drop (16 * n + 16) old) (written-byte old n (made false) h)
-        ∙ ap made e
+last-zeros : (r : Record) → recordBytes r ≡ take 14 (recordBytes r) ++ (0 ∷ 0 ∷ [])
+last-zeros (recorded (item A i j bare) p x y z) = refl
+last-zeros (recorded (item A i j (foot γ B q t)) p x y z) = refl
+
+pub written-record : (old : List ℕ) (n w N A i j : ℕ) (φ : Foot) (p x y z : ℕ) → 16 * n + 16 ≤ length old → FootFits w N φ
+    → let r = recorded (item A i j φ) p x y z in recordAt (written old n r) n ≡ r
+written-record old n w N A i j φ p x y z h f =
+    let r = recorded (item A i j φ) p x y z in
+    ap (λ (l : List ℕ). recordAt (placed old n l) n) (last-zeros r) ∙ placed-record old n w N A i j φ p x y z 0 0 h f
+
+-- A byte of a list whose parts have 16 bytes each.
+part-byte : {A : Type 0} (f : A → List ℕ) → ((x : A) → length (f x) ≡ 16) → (l : List A) (x : A) (m k : ℕ) → getElem? l m ≡ some x → k < 16
+    → byteAt (concatMap f l) (16 * m + k) ≡ byteAt (f x) k
+part-byte f long [] x m k e h = absurd (none-some e)
+part-byte {A} f long (y ∷ l) x zero k e h =
+    ap (byteAt (f y ++ concatMap f l)) (zero-add k) ∙ List·getD-append (f y) (concatMap f l) 0 k (omega (arith, long y))
+    ∙ ap (λ (z : A). byteAt (f z) k) (some-same e)
+part-byte f long (y ∷ l) x (suc m) k e h =
+    let s : 16 * suc m + k ≡ length (f y) + (16 * m + k) = omega (arith, long y) in
+    ap (byteAt (f y ++ concatMap f l)) s ∙ getD-append-add (f y) (concatMap f l) (16 * m + k) 0 ∙ part-byte f long l x m k e h
+
+-- In a room whose records have numbers: a record's bytes, the number of its foot, and its foot as it may be written.
+module _ (n N : ℕ) (chart : List ℕ) (count : ℕ) (exact : take (16 * count) chart ≡ numberedChart n N (chartIn chart count)) where
+  numbered-byte : (m k : ℕ) → m < count → k < 16 → byteAt chart (16 * m + k) ≡ byteAt (numbered n N (recordAt chart m)) k
+  numbered-byte m k h l =
+      sym (getD-take (16 * count) chart (16 * m + k) 0 (omega arith))
+      ∙ ap (λ (b : List ℕ). byteAt b (16 * m + k)) exact
+      ∙ part-byte (numbered n N) (numbered-length n N) (chartIn chart count) (recordAt chart m) m k (chart-at chart count m h) l
+
+  pub number-there : (m : ℕ) → m < count → numberThere chart m ≡ footNumber n N (footThere chart m)
+  number-there m h =
+      read-word chart (16 * m) 14 (footNumber n N (footThere chart m)) (numbered-byte m 14 h (omega arith) ∙ low (recordAt chart m))
+      (numbered-byte m 15 h (omega arith) ∙ high (recordAt chart m))
+    where
+      low : (r : Record) → byteAt (numbered n N r) 14 ≡ lowByte (footNumber n N (footIn (some r)))
+      low (recorded (item A i j bare) p x y z) = refl
+      low (recorded (item A i j (foot γ B q t)) p x y z) = refl
+
+      high : (r : Record) → byteAt (numbered n N r) 15 ≡ highByte (footNumber n N (footIn (some r)))
+      high (recorded (item A i j bare) p x y z) = refl
+      high (recorded (item A i j (foot γ B q t)) p x y z) = refl
+
+  pub writable-there : (m : ℕ) → m < count → Writable (footFields chart m)
+  writable-there m h e =
+      let (b, p, q) = parts (recordAt chart m) (rw (eq-eqb (byteAt chart (16 * m + 1)) 0 e)) in
+      (numbered-byte m 4 h (omega arith) ∙ b, numbered-byte m 5 h (omega arith) ∙ p, numbered-byte m 6 h (omega arith) ∙ q)
+    where
+      parts : (r : Record) → footIn (some r) ≡ bare
+          → (byteAt (numbered n N r) 4 ≡ 255) × (byteAt (numbered n N r) 5 ≡ 0) × (byteAt (numbered n N r) 6 ≡ 0)
+      parts (recorded (item A i j bare) p x y z) e = (refl, refl, refl)
+      parts (recorded (item A i j (foot γ B q t)) p x y z) e = absurd (false≢true (ap isBare e))

@@ -1,53 +1,18 @@
 -- Places in the tables: each is below the table's length, and two spans, cells or feet that share a place are one.
 -- The place of a cell or foot is a number written with N or n as the base, so its digits can be read back.
 use Prim.Native.Nat.{ℕ, zero, suc, _+_, _*_, _-_, _/_, _%_, _≤_, _<_}
-use native.Mathlib.Nat.{le-refl, add-zero, add-suc, mul-suc, mul-comm, mul-le-mul-right}
+use native.Mathlib.Nat.{le-refl, add-zero, add-suc, mul-suc, mul-comm, mul-le-mul, mul-le-mul-right}
 use native.Mathlib.Decide.{ℕ-discrete}
 use native.Mathlib.Omega.{arith}
 use mathlib.Core.Path.{_≡_, refl, sym, ap, _∙_, subst}
 use mathlib.Core.Logic.{_⊎_, inl, inr}
-use mathlib.Core.Bool.{Bool, true, false, cond, _||_}
-use mathlib.Core.List.{List}
+use mathlib.Core.Bool.{Bool, true, false}
 use lib.Arith.{digits-div, digits-mod}
 use lib.Dec.{ltb}
-use lib.ListN.{getD}
-use borrow.Author.Tests.{ltb-true, ltb-false, lt-ltb, le-ltb}
+use borrow.Author.Tests.{ltb-true, ltb-false}
 use Rattle.grammar.specs.Items.{Foot, bare, foot}
-use Rattle.records.specs.declared.index.Range.{Range}
-use Rattle.records.specs.Room.{FootFits, markSlot, markBit}
-use Rattle.records.specs.Index.{spans, spanAt, cellAt, emptyRange, rangeIn}
-
--- A cell's numbers as they stand.
-abbrev pub rangeThere : List ℕ → ℕ → Range
-rangeThere index cell =
-    record { from = getD index (3 * cell) 0; to = getD index (3 * cell + 1) 0; bare = getD index (3 * cell + 2) 0 }
-
--- A range that was read ends at the base, and so does its bare item.
-within : (base : ℕ) (r : Range) (x y : Bool) → ltb base (r .to) ≡ x → ltb base (r .bare) ≡ y
-    → let s = cond (x || y) emptyRange r in (s .to ≤ base) × (s .bare ≤ base)
-within base r true y e d = (omega arith, omega arith)
-within base r false true e d = (omega arith, omega arith)
-within base r false false e d = (ltb-false _ _ e, ltb-false _ _ d)
-
-pub range-within : (index : List ℕ) (cell base : ℕ)
-    → (rangeIn index cell base .to ≤ base) × (rangeIn index cell base .bare ≤ base)
-range-within index cell base = within base (rangeThere index cell) _ _ refl refl
-
--- Where a number is past the base the range is empty; otherwise it is as it stands.
-either : {A : Type 0} (x : Bool) (a b : A) → cond (x || true) a b ≡ a
-either true a b = refl
-either false a b = refl
-
-pub range-past : (index : List ℕ) (cell base : ℕ) → (base < rangeThere index cell .to) ⊎ (base < rangeThere index cell .bare)
-    → rangeIn index cell base ≡ emptyRange
-range-past index cell base (inl h) = rw (lt-ltb _ _ h)
-range-past index cell base (inr h) =
-    rw (lt-ltb base (rangeThere index cell .bare) h)
-    (either (ltb base (rangeThere index cell .to)) emptyRange (rangeThere index cell))
-
-pub range-there : (index : List ℕ) (cell base : ℕ) → rangeThere index cell .to ≤ base → rangeThere index cell .bare ≤ base
-    → rangeIn index cell base ≡ rangeThere index cell
-range-there index cell base h k = rw (le-ltb _ _ h, le-ltb _ _ k)
+use Rattle.records.specs.Room.{FootFits, footNumber}
+use Rattle.records.specs.Index.{spans, spanAt, cellAt}
 
 -- Two digits.
 pub digits-same : (n a b r s : ℕ) → r < n → s < n → a * n + r ≡ b * n + s → (a ≡ b) × (r ≡ s)
@@ -112,33 +77,25 @@ cell-same n N A i j A′ i′ j′ a h k a′ h′ k′ e =
     let (s, b) = digits-same N (spanAt i j) (spanAt i′ j′) A A′ a a′ e in
     let (x, y) = span-same n i j i′ j′ h k h′ k′ s in (b, x, y)
 
--- What fits N nonterminals fits more.
-pub fits-more : (n N M : ℕ) (φ : Foot) → N ≤ M → FootFits n N φ → FootFits n M φ
-fits-more n N M bare l h = tt
-fits-more n N M (foot γ B p q) l (g, u, b, k, m) = (g, u, omega arith, k, m)
+-- The numbers of feet. That of a foot with an index tells the foot's cell; the bare item's lies past those, in a byte of its own.
+pub number-cell : (n N γ B p q : ℕ) → FootFits n N (foot γ B p q) → footNumber n N (foot γ B p q) / 8 ≡ cellAt N B p q
+number-cell n N γ B p q (g, u, b, l, k) = omega arith
 
--- The byte of a foot's mark lies within N * n * n; byte 0 is the bare item's alone.
-pub slot-below : (n N : ℕ) (φ : Foot) → FootFits n N φ → markSlot n φ ≤ N * n * n
-slot-below n N bare h = omega arith
-slot-below n N (foot γ B p q) (g, u, b, l, k) =
-    let row : B * n + suc p ≤ N * n = omega (arith, mul-le-mul-right n b) in omega (arith, mul-le-mul-right n row)
+pub number-within : (n N : ℕ) (φ : Foot) → FootFits n N φ → footNumber n N φ / 8 ≤ spans n * N
+number-within n N bare h = omega arith
+number-within n N (foot γ B p q) (g, u, b, l, k) = omega (arith, cell-below n N B p q b l k)
 
-pub slot-above : (n γ B p q : ℕ) → p < q → 0 < markSlot n (foot γ B p q)
-slot-above n γ B p q l = omega arith
+-- It fits 16 bits: of 24 words there are 300 spans.
+pub number-small : (n N : ℕ) (φ : Foot) → n ≤ 24 → N ≤ 16 → FootFits n N φ → footNumber n N φ < 65536
+number-small n N φ h k f = omega (arith, number-within n N φ f, mul-le-mul (spans-more n 24 h) k)
 
-pub slot-same : (n γ B p q γ′ B′ p′ q′ : ℕ) → p < q → q ≤ n → p′ < q′ → q′ ≤ n
-    → markSlot n (foot γ B p q) ≡ markSlot n (foot γ′ B′ p′ q′) → (B ≡ B′) × (p ≡ p′) × (q ≡ q′)
-slot-same n γ B p q γ′ B′ p′ q′ h k h′ k′ e =
-    let (s, b) = digits-same n (B * n + p) (B′ * n + p′) (q - 1) (q′ - 1) (omega arith) (omega arith) (omega arith) in
-    let (x, y) = digits-same n B B′ p p′ (omega arith) (omega arith) s in (x, y, omega arith)
-
--- A mark is one foot's.
-pub mark-same : (n N N′ : ℕ) (φ ψ : Foot) → FootFits n N φ → FootFits n N′ ψ → markSlot n φ ≡ markSlot n ψ → markBit φ ≡ markBit ψ
-    → φ ≡ ψ
-mark-same n N N′ bare bare h k s b = refl
-mark-same n N N′ bare (foot γ B p q) h (g, u, c, l, m) s b = absurd (omega (arith, slot-above n γ B p q l))
-mark-same n N N′ (foot γ B p q) bare (g, u, c, l, m) k s b = absurd (omega (arith, slot-above n γ B p q l))
-mark-same n N N′ (foot γ B p q) (foot γ′ B′ p′ q′) (g, u, c, l, m) (g′, u′, c′, l′, m′) s b =
-    let (x, y, z) = slot-same n γ B p q γ′ B′ p′ q′ l m l′ m′ s in
+-- A number is one foot's.
+pub number-same : (n N : ℕ) (φ ψ : Foot) → FootFits n N φ → FootFits n N ψ → footNumber n N φ ≡ footNumber n N ψ → φ ≡ ψ
+number-same n N bare bare h k e = refl
+number-same n N bare (foot γ B p q) h (g, u, b, l, m) e = absurd (omega (arith, cell-below n N B p q b l m))
+number-same n N (foot γ B p q) bare (g, u, b, l, m) k e = absurd (omega (arith, cell-below n N B p q b l m))
+number-same n N (foot γ B p q) (foot γ′ B′ p′ q′) (g, u, b, l, m) (g′, u′, b′, l′, m′) e =
+    let c : cellAt N B p q ≡ cellAt N B′ p′ q′ = omega arith in
+    let (x, y, z) = cell-same n N B p q B′ p′ q′ b l m b′ l′ m′ c in
     let w : γ ≡ γ′ = omega arith in
     cc

@@ -2,10 +2,10 @@
 -- A cell that takes over all feet of a cell it covers gets nothing new, so such a cell can be passed over.
 use Prim.Native.Nat.{ℕ, zero, suc, _-_, _*_, _≤_}
 use mathlib.Core.Path.{_≡_}
-use mathlib.Core.Bool.{Bool, false, _||_}
+use mathlib.Core.Bool.{Bool, false, cond, _||_}
 use mathlib.Core.List.{List, [], map, List·Memᴰ}
 use lib.Dec.{eqb}
-use lib.ListN.{length, getD}
+use lib.ListN.{length, getD, set}
 use Rattle.grammar.specs.Items.{Foot}
 use Rattle.grammar.specs.ItemList.{Item, item}
 use Rattle.grammar.specs.Chart.{Record, itemOf}
@@ -63,3 +63,7 @@ reaches covers own (suc m) = eqb m own || eqb (getD covers m 0) (suc own)
 
 abbrev pub coveredIn : List ℕ → ℕ → ℕ → Bool
 coveredIn covers own at = reaches covers own (getD covers at 0)
+
+-- The table once a place was looked at: where the cell `own` covers it, by another cell or not, that is noted there.
+abbrev pub notedAnew : List ℕ → ℕ → ℕ → List ℕ
+notedAnew covers own at = cond (coveredIn covers own at) (set covers at (suc own)) covers

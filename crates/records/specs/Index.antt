@@ -1,9 +1,7 @@
 -- Where each cell's records stand: the table of cells beside the room.
 use Prim.Native.Nat.{ℕ, zero, suc, _+_, _*_, _-_, _≤_, _<_}
 use mathlib.Core.Path.{_≡_}
-use mathlib.Core.Bool.{cond, _||_}
 use mathlib.Core.List.{List, [], _∷_}
-use lib.Dec.{ltb}
 use lib.ListN.{length, getD}
 use Rattle.grammar.specs.Chart.{Record}
 use Rattle.layout.specs.Bytes.{counted}
@@ -26,23 +24,19 @@ cellAt N A i j = spanAt i j * N + A
 abbrev pub SpanFits : ℕ → ℕ → ℕ → ℕ → ℕ → Type 0
 SpanFits n N A i j = (A < N) × (i < j) × (j ≤ n)
 
--- A cell's three numbers: its first position, the one past its last, and one more than that of its bare item, or 0. Numbers past the
--- base, the count of records that were there when the present cell was begun, stand for no records.
-abbrev pub emptyRange : Range
-emptyRange = record { from = 0; to = 0; bare = 0 }
-
-abbrev pub rangeIn : List ℕ → ℕ → ℕ → Range
-rangeIn index cell base =
-    cond (ltb base (getD index (3 * cell + 1) 0) || ltb base (getD index (3 * cell + 2) 0)) emptyRange
-    (record { from = getD index (3 * cell) 0; to = getD index (3 * cell + 1) 0; bare = getD index (3 * cell + 2) 0 })
+-- A cell's three numbers: its first position, the one past its last, and one more than that of its bare item, or 0.
+abbrev pub rangeIn : List ℕ → ℕ → Range
+rangeIn index cell =
+    record { from = getD index (3 * cell) 0; to = getD index (3 * cell + 1) 0; bare = getD index (3 * cell + 2) 0 }
 
 abbrev pub bareIn : ℕ → List ℕ
 bareIn zero = []
 bareIn (suc m) = m ∷ []
 
--- The table says where the records of b stand: for every cell, filled or not.
+-- The table says where the records of b stand: for every cell, filled or not. No number in it is past them.
 pub record Indexed (n N : ℕ) (b : List Record) (index : List ℕ) : Type 0 where
   pub long : 3 * (spans n * N) ≤ length index
-  pub ranges : (A i j : ℕ) → A < N → i < j → j ≤ n → let r = rangeIn index (cellAt N A i j) (length b) in
+  pub within : (k : ℕ) → getD index k 0 ≤ length b
+  pub ranges : (A i j : ℕ) → A < N → i < j → j ≤ n → let r = rangeIn index (cellAt N A i j) in
       places b A i j ≡ counted (r .from) (r .to - r .from)
-  pub bares : (A i j : ℕ) → A < N → i < j → j ≤ n → barePlaces b A i j ≡ bareIn (rangeIn index (cellAt N A i j) (length b) .bare)
+  pub bares : (A i j : ℕ) → A < N → i < j → j ≤ n → barePlaces b A i j ≡ bareIn (rangeIn index (cellAt N A i j) .bare)

@@ -1,4 +1,4 @@
 pub mod Bits
-pub mod Room
 pub mod Index
+pub mod Room
 pub mod Cover

@@ -32,32 +32,16 @@ pub fn cell_at(n: usize, symbols: usize, a: usize, i: usize, j: usize) -> usize
     span_at(n, i, j) * symbols + a
 }
 
-// The range of a cell. Numbers past the base stand for no records.
-pub fn range_of(index: &[u16], cell: usize, base: usize) -> Range
+// The range of a cell.
+pub fn range_of(index: &[u16], cell: usize) -> Range
     requires { ⌜ 3 * cell + 3 ≤ length (now index) ⌝ }
-    ensures { λ r. ⌜ r ≡ rangeIn (now (index .entry)) cell base ⌝ }
+    ensures { λ r. ⌜ r ≡ rangeIn (now (index .entry)) cell ⌝ }
 {
     let at = 3 * cell;
-    let to = wide16(index[at + 1]);
-    let bare = wide16(index[at + 2]);
-    if base < to {
-        return Range {
-            from: 0,
-            to: 0,
-            bare: 0,
-        };
-    }
-    if base < bare {
-        return Range {
-            from: 0,
-            to: 0,
-            bare: 0,
-        };
-    }
     Range {
         from: wide16(index[at]),
-        to,
-        bare,
+        to: wide16(index[at + 1]),
+        bare: wide16(index[at + 2]),
     }
 }
 

@@ -1,11 +1,10 @@
-// Records in the room: 16 bytes each.
+// Records in the room: 16 bytes each, the last two of which hold the number of the foot while a chart is being built.
 ghost use mathlib.Core.Path.{_≡_};
 ghost use mathlib.Core.List.{_++_};
 ghost use Prim.Native.Nat.{_+_, _*_, _≤_, _<_};
 ghost use lib.ListN.{length, take, drop};
 ghost use Rattle.layout.specs.Bytes.{lowByte, highByte};
-ghost use Rattle.layout.specs.Records.{recordBytes};
-ghost use Rattle.records.specs.Room.{footThere, footFrom, recordFrom};
+ghost use Rattle.records.specs.Room.{footFields, recordFrom, Writable, withNumber, numberThere};
 
 // A, i and j of the items of one cell.
 pub struct Cell {
@@ -41,7 +40,7 @@ pub fn wide(b: u8) -> usize
 // The foot of the record at position m.
 pub fn foot_at(chart: &[u8], m: usize) -> Foot
     requires { ⌜ 16 * m + 16 ≤ length (now chart) ⌝ }
-    ensures { λ r. ⌜ footFrom r ≡ footThere (now (chart .entry)) m ⌝ }
+    ensures { λ r. ⌜ r ≡ footFields (now (chart .entry)) m ⌝ }
 {
     let at = 16 * m;
     Foot {
@@ -50,6 +49,15 @@ pub fn foot_at(chart: &[u8], m: usize) -> Foot
         from: chart[at + 5],
         to: chart[at + 6],
     }
+}
+
+// The number of its foot.
+pub fn number_at(chart: &[u8], m: usize) -> usize
+    requires { ⌜ 16 * m + 16 ≤ length (now chart) ⌝ }
+    ensures { λ r. ⌜ r ≡ numberThere (now (chart .entry)) m ⌝ }
+{
+    let at = 16 * m;
+    wide(chart[at + 14]) + 256 * wide(chart[at + 15])
 }
 
 fn low(x: u16) -> u8
@@ -76,26 +84,18 @@ fn put_all(room: &mut [u8], at: usize, src: &[u8; 16])
     }
 }
 
-pub fn put_record(chart: &mut [u8], m: usize, c: Cell, f: Foot, s: Step)
-    requires { ⌜ 16 * m + 16 ≤ length (now chart) ⌝ }
-    ensures { λ r. ⌜ now (chart .exit) ≡ take (16 * m) (now (chart .entry)) ++ (recordBytes (recordFrom c f s) ++ drop (16 * m + 16) (now (chart .entry))) ⌝ }
+pub fn put_record(chart: &mut [u8], m: usize, c: Cell, f: Foot, number: u16, s: Step)
+    requires { ⌜ (16 * m + 16 ≤ length (now chart)) × Writable f ⌝ }
+    ensures { λ r. ⌜ now (chart .exit) ≡ take (16 * m) (now (chart .entry)) ++ (withNumber number (recordFrom c f s) ++ drop (16 * m + 16) (now (chart .entry))) ⌝ }
 {
-    let mut symbol = f.symbol;
-    let mut from = f.from;
-    let mut to = f.to;
-    if f.index == 0 {
-        symbol = 255;
-        from = 0;
-        to = 0;
-    }
     let bytes = [
         c.left,
         f.index,
         c.from,
         c.to,
-        symbol,
-        from,
-        to,
+        f.symbol,
+        f.from,
+        f.to,
         s.production,
         low(s.side),
         high(s.side),
@@ -103,8 +103,8 @@ pub fn put_record(chart: &mut [u8], m: usize, c: Cell, f: Foot, s: Step)
         high(s.dependent),
         low(s.continuation),
         high(s.continuation),
-        0,
-        0,
+        low(number),
+        high(number),
     ];
     put_all(chart, 16 * m, &bytes);
 }

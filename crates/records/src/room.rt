@@ -1,7 +1,9 @@
-// The lent room: how many records it holds, and clearing it.
+// The lent room: how many records it holds, clearing it, and clearing the numbers of feet once the chart is built.
 ghost use mathlib.Core.Path.{_≡_};
+ghost use Prim.Native.Nat.{_*_, _≤_};
 ghost use lib.ListN.{length, replicate};
 ghost use Rattle.layout.specs.Records.{capacity as itemsIn};
+ghost use Rattle.records.specs.Room.{settled};
 
 // The items that a room of so many bytes holds.
 pub fn capacity(bytes: usize) -> usize
@@ -22,5 +24,18 @@ pub fn clear(room: &mut [u8])
     while k < room.len() {
         room[k] = 0;
         k += 1;
+    }
+}
+
+// The two last bytes of the first records are 0.
+pub fn settle(chart: &mut [u8], count: usize)
+    requires { ⌜ 16 * count ≤ length (now chart) ⌝ }
+    ensures { λ r. ⌜ now (chart .exit) ≡ settled count (now (chart .entry)) ⌝ }
+{
+    let mut m = 0;
+    while m < count {
+        chart[16 * m + 14] = 0;
+        chart[16 * m + 15] = 0;
+        m += 1;
     }
 }

@@ -1,31 +1,34 @@
 -- The candidates of one production over one split, as the steps find them: the table gives the records of a cell as a stretch of
 -- positions, so what the model makes from a list of positions is made place by place.
-use Prim.Native.Nat.{ℕ, suc, _-_, _≤_, _<_}
+use Prim.Native.Nat.{ℕ, suc, _+_, _*_, _-_, _/_, _≤_, _<_}
 use native.Mathlib.Omega.{arith}
 use mathlib.Core.Path.{_≡_, refl, sym, _∙_, ap, subst}
-use mathlib.Core.Bool.{Bool, true, false, cond}
+use mathlib.Core.Bool.{Bool, true, false, cond, not, false≢true}
 use mathlib.Core.List.{List, [], _∷_, append-nil}
 use lib.Dec.{eqb}
-use lib.ListN.{length}
 use borrow.Author.Tests.{eq-eqb, ne-eqb}
-use Rattle.grammar.specs.Lists.{concatMap}
+use Rattle.grammar.specs.Lists.{concatMap, only}
+use Rattle.grammar.specs.Rewriting.{Rule, Lexical, Spine}
 use Rattle.grammar.specs.Items.{Foot, bare, foot}
 use Rattle.grammar.specs.ItemList.{item}
 use Rattle.grammar.specs.Chart.{Record, recorded, nowhere}
 use Rattle.layout.specs.Bytes.{counted}
 use Rattle.card.specs.declared.Action.{Action}
 use Rattle.card.specs.declared.Action.the-variants as card
-use Rattle.card.specs.declared.Production.{Production}
-use Rattle.card.specs.declared.Production.the-variants as shape
-use Rattle.card.specs.Productions.{actionFrom, ruleFrom}
+use Rattle.card.specs.Productions.{actionFrom}
 use Rattle.chart_model.specs.Build.{flatUp, places, barePlaces, footAt, takenFrom, keptFrom, continued, givenFoot, givenFrom, byAction, byRule}
+use Rattle.records.specs.declared.record.Cell.{Cell}
 use Rattle.records.specs.declared.record.Foot as declared
 use Rattle.records.specs.declared.index.Range.{Range}
-use Rattle.records.specs.Room.{footOf, footThere, chartIn, footFrom, FootFits, Working, Added}
+use Rattle.records.specs.Room.{footOf, footThere, footFields, chartIn, FootFits, Writable, footNumber, numberThere, Working, Added}
 use Rattle.records.specs.Index.{cellAt, rangeIn, bareIn, SpanFits, Indexed}
 use Rattle.records.specs.Cover.{Stretch}
-use Rattle.records.proofs.RoomLaws.{chart-length, foot-at}
-use Rattle.records.proofs.TableLaws.{range-within}
+use Rattle.records.proofs.RoomLaws.{chart-length, foot-at, number-there}
+use Rattle.records.proofs.TableLaws.{number-cell}
+use Rattle.steps.specs.declared.step.Parts.{Parts}
+use Rattle.steps.specs.declared.step.Element.{Element}
+use Rattle.steps.specs.Fits.{ActionFits, RuleFits}
+use Rattle.steps.specs.Parts.{isPair, pairFrom, elementAt}
 use Rattle.steps.proofs.StepLaws.{concatMap-counted, added-none, added-as, foot-fits}
 
 -- A take has one record, from the first place, if there is a place.
@@ -42,21 +45,22 @@ module _ (A i j p x : ℕ) (φ : Foot) (from to : ℕ) where
 
 -- The table read at a cell, at a place that was computed from bytes w₁ to w₃: the positions of the cell's records and of its bare
 -- item, none of them past the base.
-pub to-below : (index : List ℕ) (at base : ℕ) {R : Range} → R ≡ rangeIn index at base → R .to ≤ base
-to-below index at base r = subst (λ (R : Range). R .to ≤ base) (sym r) (range-within index at base .0)
+module _ {n N : ℕ} (chart : List ℕ) (base : ℕ) {index : List ℕ} (t : Indexed n N (chartIn chart base) index) (at : ℕ) {R : Range}
+    (r : R ≡ rangeIn index at) where
+  pub to-below : R .to ≤ base
+  to-below = subst (λ (R : Range). R .to ≤ base) (sym r) (omega (arith, t .within (3 * at + 1), chart-length chart base))
 
-pub bare-below : (index : List ℕ) (at base : ℕ) {R : Range} → R ≡ rangeIn index at base → R .bare ≤ base
-bare-below index at base r = subst (λ (R : Range). R .bare ≤ base) (sym r) (range-within index at base .1)
+  pub bare-below : R .bare ≤ base
+  bare-below = subst (λ (R : Range). R .bare ≤ base) (sym r) (omega (arith, t .within (3 * at + 2), chart-length chart base))
 
 module _ {n N : ℕ} (chart : List ℕ) (base : ℕ) {index : List ℕ} (t : Indexed n N (chartIn chart base) index) {B p q w₁ w₂ w₃ : ℕ}
     (s : SpanFits n N B p q) (e₁ : w₁ ≡ B) (e₂ : w₂ ≡ p) (e₃ : w₃ ≡ q) {at : ℕ} (e : at ≡ cellAt N w₁ w₂ w₃) {R : Range}
-    (r : R ≡ rangeIn index at base) where
+    (r : R ≡ rangeIn index at) where
   pub read-at : at ≡ cellAt N B p q
   read-at = cc
 
-  read-range : R ≡ rangeIn index (cellAt N B p q) (length (chartIn chart base))
-  read-range =
-      r ∙ (ap (λ (a : ℕ). rangeIn index a base) read-at ∙ ap (rangeIn index (cellAt N B p q)) (sym (chart-length chart base)))
+  read-range : R ≡ rangeIn index (cellAt N B p q)
+  read-range = r ∙ ap (rangeIn index) read-at
 
   pub range-places : places (chartIn chart base) B p q ≡ counted (R .from) (R .to - R .from)
   range-places =
@@ -71,15 +75,28 @@ module _ {n N : ℕ} (chart : List ℕ) (base : ℕ) {index : List ℕ} (t : Ind
       subst (λ (R : Range). barePlaces (chartIn chart base) B p q ≡ bareIn (R .bare)) (sym read-range)
       (t .bares B p q (s .0) (s .1) (s .2))
 
--- A foot with an index has parts that fit.
-foot-span : (n N γ B p q : ℕ) → 1 ≤ γ → FootFits n N (footOf γ B p q) → SpanFits n N B p q
-foot-span n N γ B p q h f =
-    let (a, b, c, d, e) =
-    subst (λ (t : Bool). FootFits n N (cond t bare (foot γ B p q))) (ne-eqb γ 0 (λ z. absurd (omega arith))) f in
-    (c, d, e)
+-- A foot with an index has parts that fit, and the eighth part of its number is the place of its cell.
+foot-known : (γ B p q : ℕ) → 1 ≤ γ → footOf γ B p q ≡ foot γ B p q
+foot-known γ B p q h = rw (ne-eqb γ 0 (λ z. absurd (omega arith)))
 
-pub foot-made : (n N γ B p q : ℕ) → 1 ≤ γ → γ ≤ 8 → SpanFits n N B p q → FootFits n N (footOf γ B p q)
-foot-made n N γ B p q h l s = rw (ne-eqb γ 0 (λ z. absurd (omega arith))) (h, l, s .0, s .1, s .2)
+module _ (n N γ B p q : ℕ) (h : 1 ≤ γ) where
+  foot-span : FootFits n N (footOf γ B p q) → SpanFits n N B p q
+  foot-span f = let (a, b, c, d, e) = subst (FootFits n N) (foot-known γ B p q h) f in (c, d, e)
+
+  pub foot-made : γ ≤ 8 → SpanFits n N B p q → FootFits n N (footOf γ B p q)
+  foot-made l s = subst (FootFits n N) (sym (foot-known γ B p q h)) (h, l, s .0, s .1, s .2)
+
+  foot-cell : FootFits n N (footOf γ B p q) → footNumber n N (footOf γ B p q) / 8 ≡ cellAt N B p q
+  foot-cell f =
+      ap (λ (φ : Foot). footNumber n N φ / 8) (foot-known γ B p q h)
+      ∙ number-cell n N γ B p q (subst (FootFits n N) (foot-known γ B p q h) f)
+
+  -- As a take makes it: the number from the cell's place, and the foot may be written as it is.
+  pub foot-numbered : {at g k : ℕ} → at ≡ cellAt N B p q → g ≡ γ → k ≡ 8 * at + g - 1 → k ≡ footNumber n N (footOf γ B p q)
+  foot-numbered {k = k} e d s = subst (λ (φ : Foot). k ≡ footNumber n N φ) (sym (foot-known γ B p q h)) (omega arith)
+
+pub with-index : (f : declared.Foot) → 1 ≤ f .index → Writable f
+with-index f h e = absurd (omega arith)
 
 -- A give of g from a record with the foot φ: only if the foot's index is g, and then from the records of the foot's cell.
 module _ (b : List Record) (A i j p x y g : ℕ) where
@@ -96,14 +113,14 @@ module _ (b : List Record) (A i j p x y g : ℕ) where
       rw (ne-eqb γ 0 (λ z. absurd (omega arith)), eq-eqb γ g d, givenFoot)
       (sym (ap (concatMap (continued b A i j p x y)) l ∙ concatMap-counted (continued b A i j p x y) from (to - from)))
 
+-- The record at y as the code reads it: its index, and the number of its foot.
 module _ {n N room A i j : ℕ} {chart marks : List ℕ} {count : ℕ} (w : Working n N room A i j chart marks count) (base y : ℕ)
-    (h : y < base) (l : base ≤ count) (f : declared.Foot) (e : footFrom f ≡ footThere chart y) where
-  read-foot : footFrom f ≡ footAt (chartIn chart base) y
-  read-foot = e ∙ sym (foot-at chart base y h)
+    (h : y < base) (l : base ≤ count) where
+  abbrev f : declared.Foot
+  f = footFields chart y
 
-  pub given-span : {g : ℕ} → f .index ≡ g → 1 ≤ g → SpanFits n N (f .symbol) (f .from) (f .to)
-  given-span d u =
-      foot-span n N (f .index) (f .symbol) (f .from) (f .to) (omega arith) (subst (FootFits n N) (sym e) (foot-fits y w (omega arith)))
+  read-foot : footThere chart y ≡ footAt (chartIn chart base) y
+  read-foot = sym (foot-at chart base y h)
 
   pub given-none : {g : ℕ} (p x : ℕ) → (f .index ≡ g → ⊥)
       → Added n N room A i j (givenFrom (chartIn chart base) A i j p x g y) chart marks count chart marks count
@@ -114,15 +131,24 @@ module _ {n N room A i j : ℕ} {chart marks : List ℕ} {count : ℕ} (w : Work
       b : List Record
       b = chartIn chart base
 
-  pub given-each : {g : ℕ} (p x : ℕ) (R : Range) → f .index ≡ g → 1 ≤ g
-      → places (chartIn chart base) (f .symbol) (f .from) (f .to) ≡ counted (R .from) (R .to - R .from)
-      → flatUp (continued (chartIn chart base) A i j p x y) (R .from) (R .to - R .from) ≡ givenFrom (chartIn chart base) A i j p x g y
-  given-each {g} p x R d u t =
-      given-same b A i j p x y g (f .index) (f .symbol) (f .from) (f .to) (R .from) (R .to) d u t
-      ∙ ap (givenFoot b A i j p x y g) read-foot
-    where
-      b : List Record
-      b = chartIn chart base
+  module _ {g : ℕ} (d : f .index ≡ g) (u : 1 ≤ g) where
+    pub given-span : SpanFits n N (f .symbol) (f .from) (f .to)
+    given-span = foot-span n N (f .index) (f .symbol) (f .from) (f .to) (omega arith) (foot-fits y w (omega arith))
+
+    -- The eighth part of the number is the place of the foot's cell.
+    pub given-at : {number : ℕ} → number ≡ numberThere chart y → number / 8 ≡ cellAt N (f .symbol) (f .from) (f .to)
+    given-at e =
+        ap (λ (k : ℕ). k / 8) (e ∙ number-there n N chart count (w .exact) y (omega arith))
+        ∙ foot-cell n N (f .index) (f .symbol) (f .from) (f .to) (omega arith) (foot-fits y w (omega arith))
+
+    pub given-each : (p x : ℕ) (R : Range) → places (chartIn chart base) (f .symbol) (f .from) (f .to) ≡ counted (R .from) (R .to - R .from)
+        → flatUp (continued (chartIn chart base) A i j p x y) (R .from) (R .to - R .from) ≡ givenFrom (chartIn chart base) A i j p x g y
+    given-each p x R t =
+        given-same b A i j p x y g (f .index) (f .symbol) (f .from) (f .to) (R .from) (R .to) d u t
+        ∙ ap (givenFoot b A i j p x y g) read-foot
+      where
+        b : List Record
+        b = chartIn chart base
 
 -- A list of positions that is a stretch.
 stretched : (f : ℕ → List Record) {l : List ℕ} (from m : ℕ) → l ≡ counted from m → flatUp f from m ≡ concatMap f l
@@ -156,25 +182,46 @@ module _ (f : ℕ → List Record) {l : List ℕ} (m : ℕ) (t : l ≡ bareIn m)
       let e : m ≡ suc (m - 1) = omega arith in
       ap (concatMap f) (t ∙ ap bareIn e) ∙ append-nil (f (m - 1))
 
--- A production by its shape: no record from a word or under another left side, and else those of its side and its action.
-module _ (b : List Record) (A i k j p : ℕ) {rule : Production} where
-  same-rule : {other : Production} → rule ≡ other → byRule b A i k j p (ruleFrom rule) ≡ byRule b A i k j p (ruleFrom other)
-  same-rule e = ap (λ (r : Production). byRule b A i k j p (ruleFrom r)) e
+-- A production by its parts: no record from a word or under another left side, and else those of its side and its action.
+module _ (b : List Record) (A i k j p : ℕ) where
+  pub by-word : (rule : Rule) → isPair rule ≡ false → byRule b A i k j p rule ≡ []
+  by-word (Lexical left word) e = refl
+  by-word (Spine left a before D after) e = absurd (false≢true (sym e))
 
-  pub by-word : {left word : ℕ} → rule ≡ shape.Word left word → byRule b A i k j p (ruleFrom rule) ≡ []
-  by-word e = same-rule e
+  pub pair-other : (P : Parts) → (P .left ≡ A → ⊥) → byRule b A i k j p (pairFrom P) ≡ []
+  pair-other P d = go (P .leads)
+    where
+      go : (v : Bool) → byRule b A i k j p (Spine (P .left) (actionFrom (P .action)) (only v (P .side)) (P .dependent) (only (not v) (P .side)))
+          ≡ []
+      go true = rw (ne-eqb (P .left) A d, byRule)
+      go false = rw (ne-eqb (P .left) A d, byRule)
 
-  module _ {left B D : ℕ} {a : Action} where
-    pub first-other : rule ≡ shape.SideFirst left a B D → (left ≡ A → ⊥) → byRule b A i k j p (ruleFrom rule) ≡ []
-    first-other e d = same-rule e ∙ rw (ne-eqb left A d, byRule)
+module _ (b : List Record) (c : Cell) (k p : ℕ) where
+  pub pair-same : (P : Parts) {side d : Element} → P .left ≡ c .left → side ≡ elementAt c k (P .side) (P .leads)
+      → d ≡ elementAt c k (P .dependent) (not (P .leads))
+      → byRule b (c .left) (c .from) k (c .to) p (pairFrom P)
+      ≡ concatMap (byAction b (actionFrom (P .action)) (d .symbol) (d .from) (d .to) (c .left) (c .from) (c .to) p)
+      (barePlaces b (side .symbol) (side .from) (side .to))
+  pair-same P e s d = rw (s, d) (go (P .leads))
+    where
+      go : (v : Bool)
+          → byRule b (c .left) (c .from) k (c .to) p
+          (Spine (P .left) (actionFrom (P .action)) (only v (P .side)) (P .dependent) (only (not v) (P .side)))
+          ≡ concatMap (byAction b (actionFrom (P .action)) (P .dependent) (cond (not v) (c .from) k) (cond (not v) k (c .to)) (c .left)
+          (c .from) (c .to) p) (barePlaces b (P .side) (cond v (c .from) k) (cond v k (c .to)))
+      go true = rw (eq-eqb (P .left) (c .left) e, byRule)
+      go false = rw (eq-eqb (P .left) (c .left) e, byRule)
 
-    pub first-same : rule ≡ shape.SideFirst left a B D → left ≡ A
-        → byRule b A i k j p (ruleFrom rule) ≡ concatMap (byAction b (actionFrom a) D k j A i j p) (barePlaces b B i k)
-    first-same e d = same-rule e ∙ rw (eq-eqb left A d, byRule)
+-- The parts of a rule that fits do, and so do the two elements around k.
+pub pair-fits : (N : ℕ) (P : Parts) → RuleFits N (pairFrom P) → ActionFits (actionFrom (P .action)) × (P .side < N) × (P .dependent < N)
+pair-fits N P = go (P .leads)
+  where
+    go : (v : Bool) → RuleFits N (Spine (P .left) (actionFrom (P .action)) (only v (P .side)) (P .dependent) (only (not v) (P .side)))
+        → ActionFits (actionFrom (P .action)) × (P .side < N) × (P .dependent < N)
+    go true (l, a, s, d, n) = (a, s .0, d)
+    go false (l, a, n, d, s) = (a, s .0, d)
 
-    pub last-other : rule ≡ shape.SideLast left a D B → (left ≡ A → ⊥) → byRule b A i k j p (ruleFrom rule) ≡ []
-    last-other e d = same-rule e ∙ rw (ne-eqb left A d, byRule)
-
-    pub last-same : rule ≡ shape.SideLast left a D B → left ≡ A
-        → byRule b A i k j p (ruleFrom rule) ≡ concatMap (byAction b (actionFrom a) D i k A i j p) (barePlaces b B k j)
-    last-same e d = same-rule e ∙ rw (eq-eqb left A d, byRule)
+pub element-fits : (n N : ℕ) (c : Cell) (k symbol : ℕ) (first : Bool) {x : Element} → x ≡ elementAt c k symbol first → symbol < N
+    → c .from < k → k < c .to → c .to ≤ n → SpanFits n N (x .symbol) (x .from) (x .to)
+element-fits n N c k symbol true e a l u v = rw e (a, l, omega arith)
+element-fits n N c k symbol false e a l u v = rw e (a, u, v)

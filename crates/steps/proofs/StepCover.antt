@@ -21,10 +21,10 @@ use Rattle.chart_model.proofs.Candidates.{places-in}
 use Rattle.chart_model.proofs.FillModel.{in-counted}
 use Rattle.records.specs.Room.{chartIn, Working, Added}
 use Rattle.records.specs.Index.{spans, cellAt, SpanFits}
-use Rattle.records.specs.Cover.{CoversIn, Covering, Stretch, Advanced, coveredIn}
+use Rattle.records.specs.Cover.{CoversIn, Covering, Stretch, Advanced, coveredIn, notedAnew}
 use Rattle.records.proofs.TableLaws.{cell-below, spans-more}
 use Rattle.records.proofs.AddLaws.{state-fits}
-use Rattle.records.proofs.CoverLaws.{chart-wider, each-wider, each-in, each-known, place-has, covering-wider, covering-below, covered-sound, covering-note}
+use Rattle.records.proofs.CoverLaws.{chart-wider, each-wider, each-in, each-known, place-has, covering-wider, covering-below, covered-sound, covering-note, covering-anew}
 use Rattle.steps.proofs.StepLaws.{added-as, added-none, Looped, loop-start, loop-kept, loop-same, loop-end, loop-rest, loop-turn, loop-over, loop-skip}
 
 counted-in : (k m x : ℕ) → k ≤ x → x < k + m → List·Memᴰ x (counted k m)
@@ -91,17 +91,21 @@ module _ {n N room A i j : ℕ} where
       {at from to : ℕ} (d : Stretch n N (chartIn chart base) at from to)
       (t : Covering n N A i j (chartIn chart base) (chartIn chart count) covers) (fits : SpanFits n N A i j) where
     -- The places in the table, and the numbers that they have.
-    at-there : at < length covers
-    at-there =
-        omega (arith, t .long, d .number, cell-below n N (d .symbol) (d .start) (d .end) (d .fits .0) (d .fits .1) (d .fits .2))
-
-    pub tables-there : {own : ℕ} → own < spans n * N → (own < length covers) × (at < length covers) × (getD covers at 0 ≤ length covers)
-    tables-there h =
-        (omega (arith, t .long), at-there, subst (λ (x : ℕ). getD covers x 0 ≤ length covers) (sym (d .number)) (covering-below t fits (d .fits)))
-
     pub note-fits : {own : ℕ} → own < spans n * N → (own < 65535) × (at < length covers)
-    note-fits h =
-        (omega (arith, mul-le-mul (spans-more n 24 (w .wordsFit)) (w .symbolsFit)), at-there)
+    note-fits h = (
+      omega (arith, mul-le-mul (spans-more n 24 (w .wordsFit)) (w .symbolsFit)),
+      omega (arith, t .long, d .number, cell-below n N (d .symbol) (d .start) (d .end) (d .fits .0) (d .fits .1) (d .fits .2)),
+    )
+
+    pub passes-fits : {own : ℕ} → own < spans n * N → (own < 65535) × (at < length covers) × (getD covers at 0 ≤ length covers)
+    passes-fits h =
+        let (u, v) = note-fits h in
+        (u, v, subst (λ (x : ℕ). getD covers x 0 ≤ length covers) (sym (d .number)) (covering-below t fits (d .fits)))
+
+    -- The table is right once the cell was looked for in it, whether it is covered or not.
+    pub looked-at : {own : ℕ} {newCovers : List ℕ} → own ≡ cellAt N A i j → newCovers ≡ notedAnew covers own at
+        → Covering n N A i j (chartIn chart base) (chartIn chart count) newCovers
+    looked-at o e = rw (e, o, d .number) (covering-anew t fits (chart-wider chart base count v) (d .fits))
 
     -- No place to add from; a cell that is passed over; and one whose feet are all taken over.
     module _ (f : ℕ → List Record) (one : (x : ℕ) → map itemOf (f x) ≡ item A i j (footAt (chartIn chart base) x) ∷ []) where
@@ -111,13 +115,17 @@ module _ {n N room A i j : ℕ} where
           no-places : 0 ≡ to - from
           no-places = omega arith
 
-      pub passed-over : {own : ℕ} → own ≡ cellAt N A i j → coveredIn covers own at ≡ true
-          → Advanced n N room A i j base (flatUp f from (to - from)) chart marks count chart marks covers count
-      passed-over {own} o h =
-          advanced-kept base t
-          (added-known (flatUp f from (to - from))
-          (all-known (chartIn chart base) A i j f one (d .symbol) (d .start) (d .end) from (to - from) (d .stands) (chartIn chart count)
-          (covered-sound t fits (chart-wider chart base count v) (d .fits) test)) w)
+      pub passed-over : {own : ℕ} {newCovers : List ℕ} → own ≡ cellAt N A i j → coveredIn covers own at ≡ true
+          → newCovers ≡ notedAnew covers own at
+          → Advanced n N room A i j base (flatUp f from (to - from)) chart marks count chart marks newCovers count
+      passed-over {own} o h e =
+          record {
+            added =
+                added-known (flatUp f from (to - from))
+                (all-known (chartIn chart base) A i j f one (d .symbol) (d .start) (d .end) from (to - from) (d .stands)
+                (chartIn chart count) (covered-sound t fits (chart-wider chart base count v) (d .fits) test)) w;
+            covering = λ _. looked-at o e;
+          }
         where
           test : coveredIn covers (cellAt N A i j) (cellAt N (d .symbol) (d .start) (d .end)) ≡ true
           test = ap (λ (x : ℕ). coveredIn covers x (cellAt N (d .symbol) (d .start) (d .end))) (sym o)

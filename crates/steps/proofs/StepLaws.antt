@@ -8,7 +8,6 @@ use mathlib.Core.List.{List, [], _∷_, _++_, append-nil, append-assoc}
 use mathlib.Core.Option.{none, some}
 use lib.ListN.{length, take, drop}
 use lib.Seq.{take-take, drop-drop}
-use borrow.Author.Tests.{le-leb, lt-leb}
 use Rattle.grammar.specs.Lists.{concatMap}
 use Rattle.grammar.specs.Items.{Foot}
 use Rattle.grammar.specs.ItemList.{item}
@@ -16,9 +15,10 @@ use Rattle.grammar.specs.Chart.{Record, recorded}
 use Rattle.layout.specs.Bytes.{counted}
 use Rattle.chart_model.specs.Build.{flatUp, footAt, addEach}
 use Rattle.chart_model.proofs.BuildLaws.{flatUp-more, addEach-append, addEach-none}
-use Rattle.records.specs.Room.{footThere, chartIn, stateOf, FootFits, Working, Added}
+use Rattle.records.specs.declared.record.Foot as declared
+use Rattle.records.specs.Room.{footThere, footFrom, footFields, chartIn, stateOf, FootFits, Writable, footNumber, numberThere, Working, Added}
 use Rattle.records.proofs.AddLaws.{state-fits, state-over}
-use Rattle.records.proofs.RoomLaws.{chart-length, chart-kept-below, foot-at}
+use Rattle.records.proofs.RoomLaws.{chart-length, chart-kept-below, foot-at, number-there, writable-there}
 
 -- What two lists share at their start they share at a shorter start; and so at their end.
 take-less : (a b : ℕ) (x y : List ℕ) → a ≤ b → take b x ≡ take b y → take a x ≡ take a y
@@ -218,6 +218,14 @@ module _ {n N room A i j : ℕ} where
       → Added n N room A i j rs old oldMarks count new newMarks after → footAt (chartIn old base) y ≡ footThere new y
   foot-kept {old = old} {new = new} base y h l a =
       ap (λ (b : List Record). footAt b y) (sym (chart-kept base l a)) ∙ foot-at new base y h
+
+  -- As the code reads it, its foot may be written again, and the number that it reads is the foot's.
+  pub read-again : {chart marks : List ℕ} {count number : ℕ} {f : declared.Foot} (y : ℕ) → Working n N room A i j chart marks count
+      → y < count → f ≡ footFields chart y → number ≡ numberThere chart y
+      → FootFits n N (footFrom f) × Writable f × (number ≡ footNumber n N (footFrom f))
+  read-again {chart} {count = count} {number} y w h e d =
+      subst (λ (f : declared.Foot). FootFits n N (footFrom f) × Writable f × (number ≡ footNumber n N (footFrom f))) (sym e)
+      (foot-fits y w h, writable-there n N chart count (w .exact) y h, d ∙ number-there n N chart count (w .exact) y h)
 
   -- Its bytes are there.
   pub record-there : {chart marks : List ℕ} {count : ℕ} (y : ℕ) → Working n N room A i j chart marks count → y < count

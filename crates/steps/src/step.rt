@@ -12,13 +12,16 @@ use records::record::wide;
 ghost use mathlib.Core.Path.{_≡_};
 ghost use Prim.Native.Nat.{_-_, _*_, _≤_, _<_};
 ghost use Rattle.layout.specs.Bytes.{counted};
-ghost use Rattle.grammar.specs.Lists.{concatMap};
+ghost use mathlib.Core.Bool.{not};
+ghost use Rattle.grammar.specs.Lists.{concatMap, only};
+ghost use Rattle.grammar.specs.Rewriting.{Spine};
 ghost use Rattle.card.specs.Productions.{actionFrom, ruleFrom};
 ghost use Rattle.chart_model.specs.Build.{flatUp, keptFrom, continued, givenFrom, takenFrom, byAction, byRule, barePlaces};
-ghost use Rattle.records.specs.Room.{chartIn, footFrom, FootFits, Working, Added};
+ghost use Rattle.records.specs.Room.{chartIn, footFrom, FootFits, Writable, footNumber, Working, Added};
 ghost use Rattle.records.specs.Index.{spans, cellAt, SpanFits, Indexed};
 ghost use Rattle.records.specs.Cover.{Covering, Stretch, Advanced};
 ghost use Rattle.steps.specs.Fits.{ActionFits, RuleFits};
+ghost use Rattle.steps.specs.Parts.{PartsOf, elementAt};
 
 // What a step has before its dependent is known: the production and the side's position.
 pub struct Side {
@@ -44,13 +47,14 @@ fn keep_each(
     let mut now = count;
     while y < to {
         let f = records::record::foot_at(chart, y);
+        let number = records::record::number_at(chart, y);
         let step = Step {
             production: s.production,
             side: s.position,
             dependent: y as u16,
             continuation: NOWHERE,
         };
-        now = records::add::add(chart, marks, z, c, f, step, now);
+        now = records::add::add(chart, marks, z, c, f, number, step, now);
         if z.room < now {
             return now;
         }
@@ -87,7 +91,7 @@ fn keep_all(
         return count;
     }
     let own = own_at(z, c);
-    if records::cover::is_covered(covers, own, at) {
+    if records::cover::passes(covers, own, at) {
         return count;
     }
     let now = keep_each(chart, marks, z, c, s, from, to, count);
@@ -117,13 +121,14 @@ fn continue_each(
     let mut now = count;
     while k < to {
         let f = records::record::foot_at(chart, k);
+        let number = records::record::number_at(chart, k);
         let step = Step {
             production: s.production,
             side: s.position,
             dependent: y,
             continuation: k as u16,
         };
-        now = records::add::add(chart, marks, z, c, f, step, now);
+        now = records::add::add(chart, marks, z, c, f, number, step, now);
         if z.room < now {
             return now;
         }
@@ -132,7 +137,7 @@ fn continue_each(
     now
 }
 
-// The same for the continuations of the cell at a place.
+// The same for all the continuations of the cell at a place, which is noted then.
 fn continue_all(
     chart: &mut [u8],
     marks: &mut [u8],
@@ -153,9 +158,6 @@ fn continue_all(
         return count;
     }
     let own = own_at(z, c);
-    if records::cover::is_covered(covers, own, at) {
-        return count;
-    }
     let now = continue_each(chart, marks, z, c, s, y, from, to, count);
     if z.room < now {
         return now;
@@ -164,6 +166,8 @@ fn continue_all(
     now
 }
 
+// Those of the dependent at y, if its index is the one to give. The cell of its foot is the eighth part of the foot's number; it is passed
+// over where the cell in hand covers it.
 fn give_one(
     chart: &mut [u8],
     marks: &mut [u8],
@@ -179,12 +183,16 @@ fn give_one(
     requires { ⌜ Working (z .words) (z .symbols) (z .room) (c .left) (c .from) (c .to) (now chart) (now marks) count × (y < z .base) × (z .base ≤ count) × (1 ≤ g) × Indexed (z .words) (z .symbols) (chartIn (now chart) (z .base)) (now index) × Covering (z .words) (z .symbols) (c .left) (c .from) (c .to) (chartIn (now chart) (z .base)) (chartIn (now chart) count) (now covers) × SpanFits (z .words) (z .symbols) (c .left) (c .from) (c .to) ⌝ }
     ensures { λ r. ⌜ Advanced (z .words) (z .symbols) (z .room) (c .left) (c .from) (c .to) (z .base) (givenFrom (chartIn (now (chart .entry)) (z .base)) (c .left) (c .from) (c .to) (s .production) (s .position) g y) (now (chart .entry)) (now (marks .entry)) count (now (chart .exit)) (now (marks .exit)) (now (covers .exit)) r ⌝ }
 {
-    let f = records::record::foot_at(chart, y);
-    if f.index != g {
+    let given = chart[16 * y + 1];
+    if given != g {
         return count;
     }
-    let at = records::index::cell_at(z.words, z.symbols, wide(f.symbol), wide(f.from), wide(f.to));
-    let r = records::index::range_of(index, at, z.base);
+    let cell = records::record::number_at(chart, y) / 8;
+    let own = own_at(z, c);
+    if records::cover::passes(covers, own, cell) {
+        return count;
+    }
+    let r = records::index::range_of(index, cell);
     continue_all(
         chart,
         marks,
@@ -193,7 +201,7 @@ fn give_one(
         c,
         s,
         y as u16,
-        at,
+        cell,
         r.from,
         r.to,
         count,
@@ -228,7 +236,7 @@ fn give_each(
     now
 }
 
-// Take: one dependent is enough, whatever it is.
+// Take: one dependent is enough, whatever it is. The number is the foot's.
 fn take_one(
     chart: &mut [u8],
     marks: &mut [u8],
@@ -236,11 +244,12 @@ fn take_one(
     c: Cell,
     s: Side,
     f: Foot,
+    number: usize,
     from: usize,
     to: usize,
     count: usize,
 ) -> usize
-    requires { ⌜ Working (z .words) (z .symbols) (z .room) (c .left) (c .from) (c .to) (now chart) (now marks) count × (to ≤ z .base) × (z .base ≤ count) × FootFits (z .words) (z .symbols) (footFrom f) ⌝ }
+    requires { ⌜ Working (z .words) (z .symbols) (z .room) (c .left) (c .from) (c .to) (now chart) (now marks) count × (to ≤ z .base) × (z .base ≤ count) × FootFits (z .words) (z .symbols) (footFrom f) × Writable f × (number ≡ footNumber (z .words) (z .symbols) (footFrom f)) ⌝ }
     ensures { λ r. ⌜ Added (z .words) (z .symbols) (z .room) (c .left) (c .from) (c .to) (takenFrom (c .left) (c .from) (c .to) (s .production) (s .position) (footFrom f) (counted from (to - from))) (now (chart .entry)) (now (marks .entry)) count (now (chart .exit)) (now (marks .exit)) r ⌝ }
 {
     if to <= from {
@@ -252,7 +261,7 @@ fn take_one(
         dependent: from as u16,
         continuation: NOWHERE,
     };
-    records::add::add(chart, marks, z, c, f, step, count)
+    records::add::add(chart, marks, z, c, f, number, step, count)
 }
 
 // A nonterminal over a stretch: a side or a dependent.
@@ -278,7 +287,7 @@ fn by_action(
     ensures { λ r. ⌜ Advanced (z .words) (z .symbols) (z .room) (c .left) (c .from) (c .to) (z .base) (byAction (chartIn (now (chart .entry)) (z .base)) (actionFrom a) (d .symbol) (d .from) (d .to) (c .left) (c .from) (c .to) (s .production) (s .position)) (now (chart .entry)) (now (marks .entry)) count (now (chart .exit)) (now (marks .exit)) (now (covers .exit)) r ⌝ }
 {
     let at = records::index::cell_at(z.words, z.symbols, wide(d.symbol), wide(d.from), wide(d.to));
-    let r = records::index::range_of(index, at, z.base);
+    let r = records::index::range_of(index, at);
     match a {
         Action::Take(g) => {
             let f = Foot {
@@ -287,7 +296,8 @@ fn by_action(
                 from: d.from,
                 to: d.to,
             };
-            take_one(chart, marks, z, c, s, f, r.from, r.to, count)
+            let number = 8 * at + wide(g) - 1;
+            take_one(chart, marks, z, c, s, f, number, r.from, r.to, count)
         }
         Action::Keep => keep_all(chart, marks, covers, z, c, s, at, r.from, r.to, count),
         Action::Give(g) => give_each(chart, marks, index, covers, z, c, s, g, r.from, r.to, count),
@@ -318,7 +328,7 @@ fn with_side(
         wide(side.from),
         wide(side.to),
     );
-    let r = records::index::range_of(index, at, z.base);
+    let r = records::index::range_of(index, at);
     let bare = r.bare;
     if bare == 0 {
         return count;
@@ -328,6 +338,75 @@ fn with_side(
         position: (bare - 1) as u16,
     };
     by_action(chart, marks, index, covers, z, c, s, a, d, count)
+}
+
+// A production's parts, so that what is done with them is written once. A word production has none but its left side.
+pub struct Parts {
+    pub pair: bool,
+    pub left: u8,
+    pub action: Action,
+    pub side: u8,
+    pub dependent: u8,
+    pub leads: bool,
+}
+
+// Those of a production with a side.
+fn pair_of(left: u8, action: Action, side: u8, dependent: u8, leads: bool) -> Parts
+    ensures { λ r. ⌜ PartsOf (Spine left (actionFrom action) (only leads side) dependent (only (not leads) side)) r ⌝ }
+{
+    Parts {
+        pair: true,
+        left,
+        action,
+        side,
+        dependent,
+        leads,
+    }
+}
+
+fn parts_of(rule: Production) -> Parts
+    ensures { λ r. ⌜ PartsOf (ruleFrom rule) r ⌝ }
+{
+    match rule {
+        Production::Word { left, word: _ } => Parts {
+            pair: false,
+            left,
+            action: Action::Keep,
+            side: 0,
+            dependent: 0,
+            leads: true,
+        },
+        Production::SideFirst {
+            left,
+            action,
+            side,
+            dependent,
+        } => pair_of(left, action, side, dependent, true),
+        Production::SideLast {
+            left,
+            action,
+            dependent,
+            side,
+        } => pair_of(left, action, side, dependent, false),
+    }
+}
+
+// Of the two elements of a cell that meet at k, the first or the last.
+fn element_at(c: Cell, k: u8, symbol: u8, first: bool) -> Element
+    ensures { λ r. ⌜ r ≡ elementAt c k symbol first ⌝ }
+{
+    if first {
+        return Element {
+            symbol,
+            from: c.from,
+            to: k,
+        };
+    }
+    Element {
+        symbol,
+        from: k,
+        to: c.to,
+    }
 }
 
 pub fn by_production(
@@ -345,49 +424,15 @@ pub fn by_production(
     requires { ⌜ Working (z .words) (z .symbols) (z .room) (c .left) (c .from) (c .to) (now chart) (now marks) count × (z .base ≤ count) × Indexed (z .words) (z .symbols) (chartIn (now chart) (z .base)) (now index) × RuleFits (z .symbols) (ruleFrom rule) × (c .from < k) × (k < c .to) × (c .to ≤ z .words) × Covering (z .words) (z .symbols) (c .left) (c .from) (c .to) (chartIn (now chart) (z .base)) (chartIn (now chart) count) (now covers) × SpanFits (z .words) (z .symbols) (c .left) (c .from) (c .to) ⌝ }
     ensures { λ r. ⌜ Advanced (z .words) (z .symbols) (z .room) (c .left) (c .from) (c .to) (z .base) (byRule (chartIn (now (chart .entry)) (z .base)) (c .left) (c .from) k (c .to) p (ruleFrom rule)) (now (chart .entry)) (now (marks .entry)) count (now (chart .exit)) (now (marks .exit)) (now (covers .exit)) r ⌝ }
 {
-    match rule {
-        Production::Word { left: _, word: _ } => count,
-        Production::SideFirst {
-            left,
-            action,
-            side,
-            dependent,
-        } => {
-            if left != c.left {
-                return count;
-            }
-            let lead = Element {
-                symbol: side,
-                from: c.from,
-                to: k,
-            };
-            let d = Element {
-                symbol: dependent,
-                from: k,
-                to: c.to,
-            };
-            with_side(chart, marks, index, covers, z, c, p, lead, action, d, count)
-        }
-        Production::SideLast {
-            left,
-            action,
-            dependent,
-            side,
-        } => {
-            if left != c.left {
-                return count;
-            }
-            let last = Element {
-                symbol: side,
-                from: k,
-                to: c.to,
-            };
-            let d = Element {
-                symbol: dependent,
-                from: c.from,
-                to: k,
-            };
-            with_side(chart, marks, index, covers, z, c, p, last, action, d, count)
-        }
+    let parts = parts_of(rule);
+    if !parts.pair {
+        return count;
     }
+    if parts.left != c.left {
+        return count;
+    }
+    let action = parts.action;
+    let side = element_at(c, k, parts.side, parts.leads);
+    let d = element_at(c, k, parts.dependent, !parts.leads);
+    with_side(chart, marks, index, covers, z, c, p, side, action, d, count)
 }

@@ -1,45 +1,43 @@
--- `build_chart` meets its contract: the model's result is exact, and the room is cleared where the items do not fit.
-use mathlib.Core.Path.{_≡_, sym, subst}
-use Rattle.chart.proofs.BuiltExact.{room-lent, built-over, built-within}
+-- `build_chart` meets its contract: the model's result is exact, its numbers are cleared, and the room is cleared where the items do not
+-- fit.
+use Rattle.chart.proofs.BuiltExact.{built-over, built-within}
 use borrow.Author.Needs.{needs}
 use Rattle.chart.proofs.build_chart.Statement.{statement}
 use Rattle.chart.proofs.build_chart.Tie as tie
 use Rattle.chart.proofs.build_chart.Reads as reads
 use Rattle.chart.proofs.build_chart.Lts as lts
+use Rattle.chart.proofs.sized.build_in.Reads as build-in-reads
 use Rattle.records.proofs.room.capacity.Reads as capacity-reads
 use Rattle.records.proofs.room.clear.Reads as clear-reads
-use Rattle.chart.proofs.sized.build_in.Reads as build-in-reads
+use Rattle.records.proofs.room.settle.Reads as settle-reads
 
--- src/lib.rt:29:9
 capacity-requires : tie.Need-capacity-requires
 capacity-requires c κs = search needs
 
--- src/lib.rt:30:9
 build-in-requires : tie.Need-build-in-requires
 build-in-requires c κs = search needs
 
--- src/lib.rt:32:9
 clear-requires : tie.Need-clear-requires
 clear-requires c κs = search needs
 
--- src/lib.rt:33:9
 same-length : tie.Need-same-length
 same-length c = search needs
 
--- src/lib.rt:33:9
 returns : tie.Need-returns
 returns c =
     built-over (c .before .before .before .before .before .before .before .before .before .before .before .before .pre) (c .before .before .before .before .before .before .before .before .before .capacity .ensures) (c .before .before .before .before .before .before .before .build-in .ensures) (c .before .before .before .before .if1 .taken)
     (c .before .before .clear .ensures)
 
--- src/lib.rt:25:1
+settle-requires : tie.Need-settle-requires
+settle-requires c κs = search needs
+
 same-length-2 : tie.Need-same-length-2
 same-length-2 c = search needs
 
--- src/lib.rt:25:1
 returns-2 : tie.Need-returns-2
 returns-2 c =
-    built-within (c .before .before .before .before .before .before .before .before .pre) (c .before .before .before .before .before .capacity .ensures) (c .before .before .before .build-in .ensures) (c .if1 .left)
+    built-within (c .before .before .before .before .before .before .before .before .before .before .before .before .pre) (c .before .before .before .before .before .before .before .before .before .capacity .ensures) (c .before .before .before .before .before .before .before .build-in .ensures) (c .before .before .before .before .if1 .left)
+    (c .before .before .settle .ensures)
 
 pub build-chart-spec : {M : Type 1} → statement M
 build-chart-spec =
@@ -50,5 +48,6 @@ build-chart-spec =
     clear-requires
     same-length
     returns
+    settle-requires
     same-length-2
     returns-2)

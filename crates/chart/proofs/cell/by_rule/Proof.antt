@@ -1,7 +1,7 @@
 -- `cell::by_rule` meets its contract: over one word the rule adds what it does for the word, and over more what it does at the splits,
 -- which are the model's own two cases.
 use native.Mathlib.Omega.{arith}
-use mathlib.Core.Path.{_≡_, _∙_, ap}
+use mathlib.Core.Path.{_∙_, ap}
 use lib.ListN.{getD, take}
 use Rattle.grammar.specs.Input.{wordIs}
 use Rattle.grammar.specs.Rewriting.{Rule}

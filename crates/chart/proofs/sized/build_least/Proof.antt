@@ -26,7 +26,7 @@ build-with-requires c κs =
     let s = c .before .before .before .before .before .before .before in (
       s .pre .0,
       s .pre .1,
-      tables-lent (s .args .n) (nonterminalCount (s .args .card .now)) 4 6 97 180 30 60 (s .pre .2) (s .pre .3)
+      tables-lent (s .args .n) (nonterminalCount (s .args .card .now)) 4 6 61 180 30 60 (s .pre .2) (s .pre .3)
           (lit< tt) (lit≤ tt) (lit≤ tt) (lit≤ tt),
     )
 

@@ -27,7 +27,7 @@ build-with-requires c κs =
     let s = c .before .before .before .before .before .before .before in (
       s .pre .0,
       s .pre .1,
-      tables-lent (s .args .n) (nonterminalCount (s .args .card .now)) 24 16 9217 14400 650 4800 (s .pre .0 .short) (counts-fit (s .args .card .now) (s .pre .0 .accepted) .symbols .1)
+      tables-lent (s .args .n) (nonterminalCount (s .args .card .now)) 24 16 4801 14400 650 4800 (s .pre .0 .short) (counts-fit (s .args .card .now) (s .pre .0 .accepted) .symbols .1)
           (lit< tt) (lit≤ tt) (lit≤ tt) (lit≤ tt),
     )
 

@@ -26,7 +26,7 @@ build-with-requires c κs =
     let s = c .before .before .before .before .before .before .before in (
       s .pre .0,
       s .pre .1,
-      tables-lent (s .args .n) (nonterminalCount (s .args .card .now)) 24 6 3457 5400 650 1800 (s .pre .0 .short) (s .pre .2)
+      tables-lent (s .args .n) (nonterminalCount (s .args .card .now)) 24 6 1801 5400 650 1800 (s .pre .0 .short) (s .pre .2)
           (lit< tt) (lit≤ tt) (lit≤ tt) (lit≤ tt),
     )
 

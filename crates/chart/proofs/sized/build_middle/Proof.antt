@@ -27,7 +27,7 @@ build-with-requires c κs =
     let s = c .before .before .before .before .before .before .before in (
       s .pre .0,
       s .pre .1,
-      tables-lent (s .args .n) (nonterminalCount (s .args .card .now)) 12 16 2305 3744 182 1248 (s .pre .2) (counts-fit (s .args .card .now) (s .pre .0 .accepted) .symbols .1)
+      tables-lent (s .args .n) (nonterminalCount (s .args .card .now)) 12 16 1249 3744 182 1248 (s .pre .2) (counts-fit (s .args .card .now) (s .pre .0 .accepted) .symbols .1)
           (lit< tt) (lit≤ tt) (lit≤ tt) (lit≤ tt),
     )
 

@@ -26,7 +26,7 @@ build-with-requires c κs =
     let s = c .before .before .before .before .before .before .before in (
       s .pre .0,
       s .pre .1,
-      tables-lent (s .args .n) (nonterminalCount (s .args .card .now)) 12 6 865 1404 182 468 (s .pre .2) (s .pre .3)
+      tables-lent (s .args .n) (nonterminalCount (s .args .card .now)) 12 6 469 1404 182 468 (s .pre .2) (s .pre .3)
           (lit< tt) (lit≤ tt) (lit≤ tt) (lit≤ tt),
     )
 

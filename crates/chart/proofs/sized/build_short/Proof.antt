@@ -27,7 +27,7 @@ build-with-requires c κs =
     let s = c .before .before .before .before .before .before .before in (
       s .pre .0,
       s .pre .1,
-      tables-lent (s .args .n) (nonterminalCount (s .args .card .now)) 6 16 577 1008 56 336 (s .pre .2) (counts-fit (s .args .card .now) (s .pre .0 .accepted) .symbols .1)
+      tables-lent (s .args .n) (nonterminalCount (s .args .card .now)) 6 16 337 1008 56 336 (s .pre .2) (counts-fit (s .args .card .now) (s .pre .0 .accepted) .symbols .1)
           (lit< tt) (lit≤ tt) (lit≤ tt) (lit≤ tt),
     )
 

@@ -3,8 +3,7 @@
 use Prim.Native.Nat.{ℕ, _+_, _*_, _≤_}
 use native.Mathlib.Nat.{mul-le-mul}
 use native.Mathlib.Omega.{arith}
-use mathlib.Core.Path.{_≡_, ap}
-use Rattle.records.specs.Index.{cellAt}
+use mathlib.Core.Path.{ap}
 use Rattle.records.proofs.TableLaws.{spans-more, cell-below}
 use borrow.Author.Needs.{needs}
 use Rattle.records.proofs.index.cell_at.Statement.{statement}

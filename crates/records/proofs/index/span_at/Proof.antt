@@ -1,10 +1,10 @@
 -- `index::span_at` meets its contract: j * (j - 1) is twice the number of spans with an earlier end, and at most 576.
-use Prim.Native.Nat.{ℕ, zero, suc, _+_, _*_, _-_, _/_, _≤_, _<_}
+use Prim.Native.Nat.{ℕ, zero, suc, _*_, _-_, _/_, _≤_}
 use native.Mathlib.Nat.{mul-le-mul, mul-comm}
 use native.Mathlib.Omega.{arith}
 use mathlib.Core.Path.{_≡_}
 use borrow.Author.Needs.{needs}
-use Rattle.records.specs.Index.{spans, spanAt}
+use Rattle.records.specs.Index.{spans}
 use Rattle.records.proofs.TableLaws.{spans-twice, span-below}
 use Rattle.records.proofs.index.span_at.Statement.{statement}
 use Rattle.records.proofs.index.span_at.Tie as tie

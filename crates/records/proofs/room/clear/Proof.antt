@@ -1,13 +1,11 @@
 -- `room::clear` meets its contract. The loop's invariant: the first k bytes are 0.
 use Prim.Native.Nat.{_≤_, _-_}
 use native.Mathlib.Omega.{arith}
-use mathlib.Core.Path.{_≡_, refl, _∙_}
+use mathlib.Core.Path.{_≡_, refl}
 use lib.ListN.{length, take, replicate, length-set}
 use Rattle.records.proofs.ClearLaws.{zeros-more, zeros-all}
 use Rattle.records.proofs.room.clear.Statement.{statement}
 use Rattle.records.proofs.room.clear.Tie as tie
-use Rattle.records.proofs.room.clear.Reads as reads
-use Rattle.records.proofs.room.clear.Lts as lts
 
 abbrev Inv-loop : tie.InvT-loop
 Inv-loop room₀ k₀ room k = (k ≤ length room) × (length room ≡ length room₀) × (take k room ≡ replicate k 0)

@@ -1,13 +1,14 @@
 -- `by_action` adds what a production's action makes of its dependents, whose positions the table has as one stretch: what the model
 -- makes from the list of positions is made place by place.
 use Prim.Native.Nat.{_≤_}
-use mathlib.Core.Path.{subst}
+use native.Mathlib.Omega.{arith}
+use mathlib.Core.Path.{refl, subst}
 use Rattle.card.specs.Productions.{actionFrom}
 use Rattle.records.specs.Room.{chartIn}
 use Rattle.records.specs.Cover.{Stretch}
 use Rattle.steps.specs.Fits.{ActionFits}
 use Rattle.steps.proofs.StepLaws.{added-as}
-use Rattle.steps.proofs.StepCandidates.{to-below, range-stretch, foot-made, by-take, by-keep, by-give}
+use Rattle.steps.proofs.StepCandidates.{to-below, range-stretch, foot-made, foot-numbered, with-index, by-take, by-keep, by-give}
 use Rattle.steps.proofs.StepCover.{advanced-kept, advanced-as}
 use borrow.Author.Needs.{needs}
 use Rattle.steps.proofs.step.by_action.Statement.{statement}
@@ -31,8 +32,8 @@ range-of-requires c κs = search needs
 -- What was read from the table: a stretch of positions below the base, those of the dependent's records.
 below : (c : tie.After-range-of) → c .range-of .result .to ≤ c .before .before .before .before .before .before .before .before .before .args .z .base
 below c =
-    let a = c .before .before .before .before .before .before .before .before .before .args in
-    to-below (a .index .now) (c .before .cell-at .result) (a .z .base) (c .range-of .ensures)
+    let s = c .before .before .before .before .before .before .before .before .before in
+    to-below (s .args .chart .now) (s .args .z .base) (s .pre .2) (c .before .cell-at .result) (c .range-of .ensures)
 
 abbrev stretch : (c : tie.After-range-of) → let a = c .before .before .before .before .before .before .before .before .before .args in
     let r = c .range-of .result in
@@ -45,11 +46,34 @@ stretch c =
 enum-known-a : tie.Need-enum-known-a
 enum-known-a c = search needs
 
+mul-number : tie.Need-mul-number
+mul-number c = search needs
+
+wide-requires-4 : tie.Need-wide-requires-4
+wide-requires-4 c κs = search needs
+
+add-number : tie.Need-add-number
+add-number c = search needs
+
+-- The index to take is counted.
+taken : (c : tie.After-a) → (1 ≤ c .a .given .0 .0) × (c .a .given .0 .0 ≤ 8)
+taken c = subst (λ a. ActionFits (actionFrom a)) (c .a .given .1) (c .before .before .before .before .before .before .before .before .before .before .before .pre .3)
+
+sub-number : tie.Need-sub-number
+sub-number c = omega (arith, taken (c .before .before) .0, c .wide4 .ensures .0)
+
 take-one-requires : tie.Need-take-one-requires
 take-one-requires c κs =
-    let q = c .before .before .before .before .before .before .before .before .before .before .before .before .before .before .pre in
-    let (l, h) = subst (λ a. ActionFits (actionFrom a)) (c .before .before .before .a .given .1) (q .3) in
-    (q .0, below (c .before .before .before .before .before), q .1, foot-made _ _ _ _ _ _ l h (q .4))
+    let q = c .before .before .before .before .before .before .before .before .before .before .before .before .before .before .before .pre in
+    let r = c .before .before .before .before .before .before in
+    let (l, h) = taken (c .before .before .before .before) in (
+      q .0,
+      below r,
+      q .1,
+      foot-made _ _ _ _ _ _ l h (q .4),
+      with-index _ l,
+      foot-numbered _ _ _ _ _ _ l (stretch r .number) (c .before .before .wide4 .ensures .0) refl,
+    )
 
 enum-told : tie.Need-enum-told
 enum-told c = search needs
@@ -77,11 +101,10 @@ same-length-2 c = search needs
 
 returns : tie.Need-returns
 returns c =
-    let r = c .before .before .before .before .before .before .before .before .before .before in
+    let r = c .before .before .before .before .before .before .before .before .before .before .before in
     let q = r .before .before .before .before .before .before .before .before .before .pre in
-    let e = c .before .before .before .before .before .before .before .before .a .given .1 in
-    let (l, h) = subst (λ a. ActionFits (actionFrom a)) e (q .3) in
-    advanced-kept _ (q .5) (added-as (by-take _ _ _ _ _ _ _ _ _ (r .range-of .result) (stretch r .stands) e l) (c .before .before .before .before .take-one .ensures))
+    let t = c .before .before .before .before .before .before .before .before .before in
+    advanced-kept _ (q .5) (added-as (by-take _ _ _ _ _ _ _ _ _ (r .range-of .result) (stretch r .stands) (t .a .given .1) (taken t .0)) (c .before .before .before .before .take-one .ensures))
 
 same-length-3 : tie.Need-same-length-3
 same-length-3 c = search needs
@@ -123,6 +146,10 @@ by-action-spec =
     cell-at-requires
     range-of-requires
     enum-known-a
+    mul-number
+    wide-requires-4
+    add-number
+    sub-number
     take-one-requires
     enum-told
     keep-all-requires

@@ -2,11 +2,11 @@
 -- turn reads in the present room is the one that stood there at the start, since adding keeps the records below the count.
 use Prim.Native.Nat.{_-_}
 use native.Mathlib.Omega.{arith}
-use mathlib.Core.Path.{sym, _∙_, subst}
+use mathlib.Core.Path.{_∙_, ap}
 use Rattle.chart_model.specs.Build.{continued}
-use Rattle.records.specs.Room.{chartIn, FootFits}
+use Rattle.records.specs.Room.{chartIn, footFrom}
 use Rattle.steps.proofs.StepLaws.{Looped, loop-start, loop-works, loop-below, loop-end, loop-turn, loop-over, loop-foot}
-use Rattle.steps.proofs.StepLaws.{foot-fits, record-there}
+use Rattle.steps.proofs.StepLaws.{record-there, read-again}
 use Rattle.steps.proofs.step.continue_each.Statement.{statement}
 use Rattle.steps.proofs.step.continue_each.Tie as tie
 
@@ -28,53 +28,60 @@ foot-at-requires c κs =
     let l = c .before .before .loop .inv in
     record-there _ (loop-works l) (loop-below l (c .before .loop-test .taken) (q .1) (q .2))
 
-cast-t17 : tie.Need-cast-t17 Inv-loop μ-loop
-cast-t17 c =
-    let q = c .before .before .before .before .before .before .pre in
-    omega (arith, c .before .before .loop-test .taken, q .1, q .2, q .0 .countFits, q .0 .roomSmall)
+number-at-requires : tie.Need-number-at-requires Inv-loop μ-loop
+number-at-requires c κs =
+    let q = c .before .before .before .before .before .before .before .pre in
+    let l = c .before .before .before .before .loop .inv in
+    record-there _ (loop-works l) (loop-below l (c .before .before .before .loop-test .taken) (q .1) (q .2))
+
+cast-t20 : tie.Need-cast-t20 Inv-loop μ-loop
+cast-t20 c =
+    let q = c .before .before .before .before .before .before .before .before .pre in
+    omega (arith, c .before .before .before .before .loop-test .taken, q .1, q .2, q .0 .countFits, q .0 .roomSmall)
 
 add-requires : tie.Need-add-requires Inv-loop μ-loop
 add-requires c κs =
-    let q = c .before .before .before .before .before .before .before .before .pre in
-    let l = c .before .before .before .before .before .loop .inv in
-    let h = loop-below l (c .before .before .before .before .loop-test .taken) (q .1) (q .2) in
-    (loop-works l, subst (FootFits _ _) (sym (c .before .before .foot-at .ensures)) (foot-fits _ (loop-works l) h))
+    let q = c .before .before .before .before .before .before .before .before .before .before .pre in
+    let l = c .before .before .before .before .before .before .before .loop .inv in
+    let h = loop-below l (c .before .before .before .before .before .before .loop-test .taken) (q .1) (q .2) in
+    let (a, b, d) = read-again _ (loop-works l) h (c .before .before .before .before .foot-at .ensures) (c .before .before .number-at .ensures) in
+    (loop-works l, a, b, d)
 
 same-length : tie.Need-same-length Inv-loop μ-loop
 same-length c =
     c .before .before .before .before .before .before .add .ensures .sameRoom
-    ∙ c .before .before .before .before .before .before .before .before .before .before .before .before .loop .inv .sofar .sameRoom
+    ∙ c .before .before .before .before .before .before .before .before .before .before .before .before .before .before .loop .inv .sofar .sameRoom
 
 same-length-2 : tie.Need-same-length-2 Inv-loop μ-loop
 same-length-2 c =
     c .before .before .before .before .before .before .add .ensures .sameMarks
-    ∙ c .before .before .before .before .before .before .before .before .before .before .before .before .loop .inv .sofar .sameMarks
+    ∙ c .before .before .before .before .before .before .before .before .before .before .before .before .before .before .loop .inv .sofar .sameMarks
 
 -- The room is full: the records that are left change nothing.
 returns : tie.Need-returns Inv-loop μ-loop
 returns c =
-    let q = c .before .before .before .before .before .before .before .before .before .before .before .before .before .before .before .pre in
-    let l = c .before .before .before .before .before .before .before .before .before .before .before .before .loop .inv in
-    let t = c .before .before .before .before .before .before .before .before .before .before .before .loop-test .taken in
-    let one = loop-foot _ l t (q .1) (q .2) (c .before .before .before .before .before .before .before .before .before .foot-at .ensures)
+    let q = c .before .before .before .before .before .before .before .before .before .before .before .before .before .before .before .before .before .pre in
+    let l = c .before .before .before .before .before .before .before .before .before .before .before .before .before .before .loop .inv in
+    let t = c .before .before .before .before .before .before .before .before .before .before .before .before .before .loop-test .taken in
+    let one = loop-foot _ l t (q .1) (q .2) (ap footFrom (c .before .before .before .before .before .before .before .before .before .before .before .foot-at .ensures))
     (c .before .before .before .before .before .before .add .ensures) in
     loop-over l t one (c .if1 .taken)
 
 add-k : tie.Need-add-k Inv-loop μ-loop
 add-k c =
-    let q = c .before .before .before .before .before .before .before .before .before .before .before .before .before .before .before .pre in
-    let t = c .before .before .before .before .before .before .before .before .before .before .before .loop-test .taken in
+    let q = c .before .before .before .before .before .before .before .before .before .before .before .before .before .before .before .before .before .pre in
+    let t = c .before .before .before .before .before .before .before .before .before .before .before .before .before .loop-test .taken in
     omega (arith, t, q .1, q .2, q .0 .countFits, q .0 .roomSmall)
 
 loop-less : tie.Need-loop-less Inv-loop μ-loop
-loop-less c = omega (arith, c .before .before .before .before .before .before .before .before .before .before .before .loop-test .taken)
+loop-less c = omega (arith, c .before .before .before .before .before .before .before .before .before .before .before .before .before .loop-test .taken)
 
 loop-again : tie.Need-loop-again Inv-loop μ-loop
 loop-again c =
-    let q = c .before .before .before .before .before .before .before .before .before .before .before .before .before .before .before .pre in
-    let l = c .before .before .before .before .before .before .before .before .before .before .before .before .loop .inv in
-    let t = c .before .before .before .before .before .before .before .before .before .before .before .loop-test .taken in
-    let one = loop-foot _ l t (q .1) (q .2) (c .before .before .before .before .before .before .before .before .before .foot-at .ensures)
+    let q = c .before .before .before .before .before .before .before .before .before .before .before .before .before .before .before .before .before .pre in
+    let l = c .before .before .before .before .before .before .before .before .before .before .before .before .before .before .loop .inv in
+    let t = c .before .before .before .before .before .before .before .before .before .before .before .before .before .loop-test .taken in
+    let one = loop-foot _ l t (q .1) (q .2) (ap footFrom (c .before .before .before .before .before .before .before .before .before .before .before .foot-at .ensures))
     (c .before .before .before .before .before .before .add .ensures) in
     loop-turn l t one (c .if1 .left)
 
@@ -95,7 +102,8 @@ continue-each-spec =
     μ-loop
     loop-holds
     foot-at-requires
-    cast-t17
+    number-at-requires
+    cast-t20
     add-requires
     same-length
     same-length-2

@@ -1,81 +1,107 @@
--- `give_one` adds the records of a give from one dependent: none where its foot has another index, and else those of the
--- continuations, whose positions the table has as one stretch.
-use Prim.Native.Nat.{_≤_}
+-- `give_one` adds the records of a give from one dependent: none where its foot has another index, and else those of the continuations, whose
+-- positions the table has as one stretch. The number of the foot tells where, and nothing is added where that cell is covered.
+use Prim.Native.Nat.{_+_, _*_, _/_, _≤_}
 use native.Mathlib.Omega.{arith}
+use mathlib.Core.Path.{_≡_, refl, sym, _∙_}
+use lib.ListN.{length}
+use Rattle.records.specs.declared.index.Range.{Range}
+use Rattle.records.specs.Room.{chartIn, footFields}
+use Rattle.records.specs.Index.{cellAt, rangeIn, SpanFits}
+use Rattle.records.specs.Cover.{Covering, Stretch}
+use Rattle.records.proofs.TableLaws.{cell-below}
+use Rattle.steps.proofs.StepCandidates.{to-below, range-stretch, given-span, given-at, given-none, given-each}
+use Rattle.steps.proofs.StepCover.{advanced-kept, advanced-as, passes-fits, looked-at, passed-over}
 use borrow.Author.Needs.{needs}
-use Rattle.records.specs.Room.{chartIn}
-use Rattle.records.specs.Index.{SpanFits}
-use Rattle.records.specs.Cover.{Stretch}
-use Rattle.steps.proofs.StepCandidates.{to-below, range-stretch, given-span, given-none, given-each}
-use Rattle.steps.proofs.StepCover.{advanced-kept, advanced-as}
 use Rattle.steps.proofs.step.give_one.Statement.{statement}
 use Rattle.steps.proofs.step.give_one.Tie as tie
 
-foot-at-requires : tie.Need-foot-at-requires
-foot-at-requires c κs = search needs
+-- The foot's index is the one to give, so its parts fit, and its number tells the place of its cell.
+span : (c : tie.After-number-at) → let a = c .before .before .before .before .before .before .before .before .args in
+    let f = footFields (a .chart .now) (a .y) in
+    SpanFits (a .z .words) (a .z .symbols) (f .symbol) (f .from) (f .to)
+span c = let q = c .before .before .before .before .before .before .before .before .pre in given-span (q .0) _ _ (q .1) (q .2) (c .before .before .if1 .left) (q .3)
+
+place : (c : tie.After-number-at) → let a = c .before .before .before .before .before .before .before .before .args in
+    let f = footFields (a .chart .now) (a .y) in
+    c .number-at .result / 8 ≡ cellAt (a .z .symbols) (f .symbol) (f .from) (f .to)
+place c = let q = c .before .before .before .before .before .before .before .before .pre in given-at (q .0) _ _ (q .1) (q .2) (c .before .before .if1 .left) (q .3) (c .number-at .ensures)
+
+-- There the table has the positions of the cell's records.
+abbrev stretch : {R : Range} (c : tie.After-number-at) → let a = c .before .before .before .before .before .before .before .before .args in
+    let at = c .number-at .result / 8 in
+    R ≡ rangeIn (a .index .now) at → Stretch (a .z .words) (a .z .symbols) (chartIn (a .chart .now) (a .z .base)) at (R .from) (R .to)
+stretch c r =
+    let s = c .before .before .before .before .before .before .before .before in range-stretch (s .args .chart .now) (s .args .z .base) (s .pre .4) (span c) refl refl refl (place c) r
+
+inside : (c : tie.After-number-at) → 3 * (c .number-at .result / 8) + 3 ≤ length (c .before .before .before .before .before .before .before .before .args .index .now)
+inside c =
+    let a = c .before .before .before .before .before .before .before .before .args in
+    let f = footFields (a .chart .now) (a .y) in
+    let s = span c in
+    omega (arith, place c, cell-below (a .z .words) (a .z .symbols) (f .symbol) (f .from) (f .to) (s .0) (s .1) (s .2), c .before .before .before .before .before .before .before .before .pre .4 .long)
+
+-- The table of covers once the cell was looked for.
+right : (c : tie.After-passes) → let a = c .before .before .before .before .before .before .before .before .before .before .before .args in
+    Covering (a .z .words) (a .z .symbols) (a .c .left) (a .c .from) (a .c .to) (chartIn (a .chart .now) (a .z .base))
+    (chartIn (a .chart .now) (a .count)) (c .passes .last .0)
+right c =
+    let q = c .before .before .before .before .before .before .before .before .before .before .before .pre in
+    looked-at (q .0) (q .2) (stretch (c .before .before .before) refl) (q .5) (q .6) (c .before .before .own-at .ensures .0) (c .passes .ensures .1)
+
+mul-given : tie.Need-mul-given
+mul-given c = search needs
+
+add-given : tie.Need-add-given
+add-given c = search needs
+
+slice-read-given : tie.Need-slice-read-given
+slice-read-given c = search needs
+
+returns : tie.Need-returns
+returns c =
+    let q = c .before .before .before .before .before .before .pre in
+    advanced-kept _ (q .5) (given-none (q .0) _ _ (q .1) (q .2) _ _ (c .if1 .taken))
+
+number-at-requires : tie.Need-number-at-requires
+number-at-requires c κs = search needs
+
+own-at-requires : tie.Need-own-at-requires
+own-at-requires c κs = search needs
+
+passes-requires : tie.Need-passes-requires
+passes-requires c κs =
+    let q = c .before .before .before .before .before .before .before .before .before .before .pre in
+    passes-fits (q .0) (q .2) (stretch (c .before .before) refl) (q .5) (q .6) (c .before .own-at .ensures .1)
 
 same-length : tie.Need-same-length
 same-length c = search needs
 
-returns : tie.Need-returns
-returns c =
-    let q = c .before .before .before .before .before .before .before .before .pre in
-    advanced-kept _ (q .5) (given-none (q .0) _ _ (q .1) (q .2) _ (c .before .before .foot-at .ensures) _ _ (c .if1 .taken))
+same-length-2 : tie.Need-same-length-2
+same-length-2 c = search needs
 
--- The foot's index is the one to give, so its parts fit; and the records of its cell are one stretch below the base.
-span : (c : tie.Else1) → let z = c .before .before .before .before .before .before .before .before .args .z in
-    let f = c .before .before .foot-at .result in
-    SpanFits (z .words) (z .symbols) (f .symbol) (f .from) (f .to)
-span c =
-    let q = c .before .before .before .before .before .before .before .before .pre in
-    given-span (q .0) _ _ (q .1) (q .2) _ (c .before .before .foot-at .ensures) (c .if1 .left) (q .3)
-
-below : (c : tie.After-range-of) → let a = c .before .before .before .before .before .before .before .before .before .before .before .before .before .args in
-    c .range-of .result .to ≤ a .z .base
-below c =
-    let a = c .before .before .before .before .before .before .before .before .before .before .before .before .before .args in
-    to-below (a .index .now) (c .before .cell-at .result) (a .z .base) (c .range-of .ensures)
-
-abbrev stretch : (c : tie.After-range-of) → let a = c .before .before .before .before .before .before .before .before .before .before .before .before .before .args in
-    let r = c .range-of .result in
-    Stretch (a .z .words) (a .z .symbols) (chartIn (a .chart .now) (a .z .base)) (c .before .cell-at .result) (r .from) (r .to)
-stretch c =
-    let s = c .before .before .before .before .before .before .before .before .before .before .before .before .before in
-    range-stretch (s .args .chart .now) (s .args .z .base) (s .pre .4) (span (c .before .before .before .before .before)) (c .before .before .before .before .wide .ensures .0)
-    (c .before .before .before .wide2 .ensures .0) (c .before .before .wide3 .ensures .0) (c .before .cell-at .ensures .0) (c .range-of .ensures)
-
-wide-requires : tie.Need-wide-requires
-wide-requires c κs = search needs
-
-wide-requires-2 : tie.Need-wide-requires-2
-wide-requires-2 c κs = search needs
-
-wide-requires-3 : tie.Need-wide-requires-3
-wide-requires-3 c κs = search needs
-
-cell-at-requires : tie.Need-cell-at-requires
-cell-at-requires c κs =
-    let w = c .before .before .before .before .before .before .before .before .before .before .before .pre .0 in
-    let s = span (c .before .before .before) in
-    let e₁ = c .before .before .wide .ensures .0 in
-    let e₂ = c .before .wide2 .ensures .0 in
-    let e₃ = c .wide3 .ensures .0 in
-    (w .wordsFit, w .symbolsFit, omega (arith, s .0, e₁), omega (arith, s .1, e₂, e₃), omega (arith, s .2, e₃))
+returns-2 : tie.Need-returns-2
+returns-2 c =
+    let q = c .before .before .before .before .before .before .before .before .before .before .before .before .before .before .pre in
+    let a = c .before .before .before .before .before .before .before .before .before .before .before .before .before .before .args in
+    let n = c .before .before .before .before .before .before in
+    let R = rangeIn (a .index .now) (n .number-at .result / 8) in
+    let e = c .before .before .before .passes .ensures in
+    advanced-as (given-each (q .0) _ _ (q .1) (q .2) (n .before .before .if1 .left) (q .3) _ _ R (stretch n refl .stands))
+    (passed-over (q .0) (q .2) (stretch n refl) (q .5) (q .6) _ (λ x. refl) (c .before .before .before .before .before .own-at .ensures .0) (sym (e .0) ∙ c .if2 .taken) (e .1))
 
 range-of-requires : tie.Need-range-of-requires
-range-of-requires c κs = search needs
+range-of-requires c κs = inside (c .before .before .before .before .before .before)
 
 cast-continue-all : tie.Need-cast-continue-all
 cast-continue-all c = search needs
 
 continue-all-requires : tie.Need-continue-all-requires
 continue-all-requires c κs =
-    let q = c .before .before .before .before .before .before .before .before .before .before .before .before .before .before .before .before .pre in
-    let r = c .before .before .before in
-    (q .0, below r, q .2, stretch r, q .5, q .6)
-
-same-length-2 : tie.Need-same-length-2
-same-length-2 c = search needs
+    let s = c .before .before .before .before .before .before .before .before .before .before .before .before .before .before .before .before .before .before in
+    let q = s .pre in
+    let n = c .before .before .before .before .before .before .before .before .before .before in
+    let r = c .before .before .before .range-of .ensures in
+    (q .0, to-below (s .args .chart .now) (s .args .z .base) (q .4) (n .number-at .result / 8) r, q .2, stretch n r, right (c .before .before .before .before .before .before .before), q .6)
 
 same-length-3 : tie.Need-same-length-3
 same-length-3 c = search needs
@@ -83,28 +109,34 @@ same-length-3 c = search needs
 same-length-4 : tie.Need-same-length-4
 same-length-4 c = search needs
 
-returns-2 : tie.Need-returns-2
-returns-2 c =
-    let r = c .before .before .before .before .before .before .before .before .before .before in
-    let q = r .before .before .before .before .before .before .before .before .before .before .before .before .before .pre in
-    advanced-as (given-each (q .0) _ _ (q .1) (q .2) _ (r .before .before .before .before .before .before .before .foot-at .ensures) _ _ (r .range-of .result) (r .before .before .before .before .before .if1 .left) (q .3) (stretch r .stands))
+same-length-5 : tie.Need-same-length-5
+same-length-5 c = search needs
+
+returns-3 : tie.Need-returns-3
+returns-3 c =
+    let q = c .before .before .before .before .before .before .before .before .before .before .before .before .before .before .before .before .before .before .before .before .before .before .before .before .before .pre in
+    let n = c .before .before .before .before .before .before .before .before .before .before .before .before .before .before .before .before .before in
+    advanced-as (given-each (q .0) _ _ (q .1) (q .2) (n .before .before .if1 .left) (q .3) _ _ (c .before .before .before .before .before .before .before .before .before .before .range-of .result) (stretch n (c .before .before .before .before .before .before .before .before .before .before .range-of .ensures) .stands))
     (c .before .before .before .before .before .before .continue-all .ensures)
 
 pub give-one-spec : {M : Type 1} → statement M
 give-one-spec =
     tie.close
     (tie.spec
-    foot-at-requires
-    same-length
+    mul-given
+    add-given
+    slice-read-given
     returns
-    wide-requires
-    wide-requires-2
-    wide-requires-3
-    cell-at-requires
+    number-at-requires
+    own-at-requires
+    passes-requires
+    same-length
+    same-length-2
+    returns-2
     range-of-requires
     cast-continue-all
     continue-all-requires
-    same-length-2
     same-length-3
     same-length-4
-    returns-2)
+    same-length-5
+    returns-3)

@@ -1,10 +1,20 @@
 -- `keep_all` adds the records of the dependents of one cell, or passes it over where it is covered; once all of them are added, the cell is
 -- noted as covered.
 use mathlib.Core.Path.{refl, sym, _∙_}
-use Rattle.steps.proofs.StepCover.{advanced-kept, tables-there, note-fits, advanced-none, passed-over, taken-over}
+use Rattle.records.specs.Room.{chartIn}
+use Rattle.records.specs.Cover.{Covering}
+use Rattle.steps.proofs.StepCover.{advanced-kept, note-fits, passes-fits, looked-at, advanced-none, passed-over, taken-over}
 use borrow.Author.Needs.{needs}
 use Rattle.steps.proofs.step.keep_all.Statement.{statement}
 use Rattle.steps.proofs.step.keep_all.Tie as tie
+
+-- The table once the cell was looked for.
+right : (c : tie.After-passes) → let a = c .before .before .before .before .before .before .before .args in
+    Covering (a .z .words) (a .z .symbols) (a .c .left) (a .c .from) (a .c .to) (chartIn (a .chart .now) (a .z .base))
+    (chartIn (a .chart .now) (a .count)) (c .passes .last .0)
+right c =
+    let q = c .before .before .before .before .before .before .before .pre in
+    looked-at (q .0) (q .2) (q .3) (q .4) (q .5) (c .before .before .own-at .ensures .0) (c .passes .ensures .1)
 
 returns : tie.Need-returns
 returns c =
@@ -14,18 +24,19 @@ returns c =
 own-at-requires : tie.Need-own-at-requires
 own-at-requires c κs = search needs
 
-is-covered-requires : tie.Need-is-covered-requires
-is-covered-requires c κs =
+passes-requires : tie.Need-passes-requires
+passes-requires c κs =
     let q = c .before .before .before .before .before .before .pre in
-    tables-there (q .0) (q .2) (q .3) (q .4) (q .5) (c .before .own-at .ensures .1)
+    passes-fits (q .0) (q .2) (q .3) (q .4) (q .5) (c .before .own-at .ensures .1)
 
 same-length : tie.Need-same-length
 same-length c = search needs
 
 returns-2 : tie.Need-returns-2
 returns-2 c =
-    let q = c .before .before .before .before .before .before .before .before .pre in
-    passed-over (q .0) (q .2) (q .3) (q .4) (q .5) _ (λ x. refl) (c .before .before .before .own-at .ensures .0) (sym (c .before .is-covered .ensures) ∙ c .if2 .taken)
+    let q = c .before .before .before .before .before .before .before .before .before .before .pre in
+    let e = c .before .before .before .passes .ensures in
+    passed-over (q .0) (q .2) (q .3) (q .4) (q .5) _ (λ x. refl) (c .before .before .before .before .before .own-at .ensures .0) (sym (e .0) ∙ c .if2 .taken) (e .1)
 
 keep-each-requires : tie.Need-keep-each-requires
 keep-each-requires c κs = search needs
@@ -41,13 +52,12 @@ same-length-4 c = search needs
 
 returns-3 : tie.Need-returns-3
 returns-3 c =
-    let q = c .before .before .before .before .before .before .before .before .before .before .before .before .before .before .before .before .before .pre in
-    advanced-kept _ (q .4) (c .before .before .before .before .before .before .keep-each .ensures)
+    advanced-kept _ (right (c .before .before .before .before .before .before .before .before .before .before .before .before)) (c .before .before .before .before .before .before .keep-each .ensures)
 
 note-requires : tie.Need-note-requires
 note-requires c κs =
-    let q = c .before .before .before .before .before .before .before .before .before .before .before .before .before .before .before .before .before .before .pre in
-    note-fits (q .0) (q .2) (q .3) (q .4) (q .5) (c .before .before .before .before .before .before .before .before .before .before .before .before .before .own-at .ensures .1)
+    let q = c .before .before .before .before .before .before .before .before .before .before .before .before .before .before .before .before .before .before .before .before .pre in
+    note-fits (q .0) (q .2) (q .3) (right (c .before .before .before .before .before .before .before .before .before .before .before .before .before)) (q .5) (c .before .before .before .before .before .before .before .before .before .before .before .before .before .before .before .own-at .ensures .1)
 
 same-length-5 : tie.Need-same-length-5
 same-length-5 c = search needs
@@ -60,9 +70,10 @@ same-length-7 c = search needs
 
 returns-4 : tie.Need-returns-4
 returns-4 c =
-    let q = c .before .before .before .before .before .before .before .before .before .before .before .before .before .before .before .before .before .before .before .before .before .pre in
-    let own = c .before .before .before .before .before .before .before .before .before .before .before .before .before .before .before .before in
-    taken-over (q .0) (q .2) (q .3) (q .4) (q .5) _ (λ x. refl) (own .own-at .ensures .0) (own .before .if1 .left) (c .before .before .before .before .before .before .before .before .before .before .keep-each .ensures) (c .before .before .before .before .if3 .left) (c .before .before .note .ensures)
+    let q = c .before .before .before .before .before .before .before .before .before .before .before .before .before .before .before .before .before .before .before .before .before .before .before .pre in
+    let own = c .before .before .before .before .before .before .before .before .before .before .before .before .before .before .before .before .before .before in
+    taken-over (q .0) (q .2) (q .3) (right (c .before .before .before .before .before .before .before .before .before .before .before .before .before .before .before .before)) (q .5) _ (λ x. refl) (own .own-at .ensures .0) (own .before .if1 .left) (c .before .before .before .before .before .before .before .before .before .before .keep-each .ensures)
+    (c .before .before .before .before .if3 .left) (c .before .before .note .ensures)
 
 pub keep-all-spec : {M : Type 1} → statement M
 keep-all-spec =
@@ -70,7 +81,7 @@ keep-all-spec =
     (tie.spec
     returns
     own-at-requires
-    is-covered-requires
+    passes-requires
     same-length
     returns-2
     keep-each-requires

@@ -45,7 +45,7 @@ sub-t16 c = search needs
 cast-t20 : tie.Need-cast-t20
 cast-t20 c =
     let s = c .before .before .before .before .before .before .before .before .before .before in
-    let h = bare-below (s .args .index .now) (c .before .before .cell-at .result) (s .args .z .base) (c .before .range-of .ensures) in
+    let h = bare-below (s .args .chart .now) (s .args .z .base) (s .pre .2) (c .before .before .cell-at .result) (c .before .range-of .ensures) in
     omega (arith, h, s .pre .1, s .pre .0 .countFits, s .pre .0 .roomSmall)
 
 by-action-requires : tie.Need-by-action-requires

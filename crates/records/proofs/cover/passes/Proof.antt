@@ -1,0 +1,100 @@
+-- `cover::passes` meets its contract: no entry, the cell's own number, or one more look, each by its case of the definition; and the entry
+-- is the cell's own number, or is made so, where it is covered.
+use Prim.Native.Nat.{_+_, _-_}
+use mathlib.Core.Path.{_≡_, sym, _∙_, ap}
+use lib.Dec.{eqb}
+use lib.ListN.{getD}
+use borrow.Author.Tests.{eq-eqb, ne-eqb}
+use Rattle.records.specs.Cover.{reaches, coveredIn}
+use Rattle.records.proofs.CoverLaws.{reaches-none, reaches-here, reaches-there, left-as-is, noted-already, noted-now}
+use borrow.Author.Needs.{needs}
+use Rattle.records.proofs.cover.passes.Statement.{statement}
+use Rattle.records.proofs.cover.passes.Tie as tie
+
+mul-wide16 : tie.Need-mul-wide16
+mul-wide16 c = search needs
+
+slice-read-wide16 : tie.Need-slice-read-wide16
+slice-read-wide16 c = search needs
+
+wide16-requires : tie.Need-wide16-requires
+wide16-requires c κs = search needs
+
+returns : tie.Need-returns
+returns c =
+    let a = c .before .before .before .before .args in
+    let e = reaches-none (a .covers .now) (a .own) (sym (c .before .wide16 .ensures) ∙ c .if1 .taken) in
+    (sym e, left-as-is (a .covers .now) (a .own) (a .at) e)
+
+add-if2 : tie.Need-add-if2
+add-if2 c = search needs
+
+returns-2 : tie.Need-returns-2
+returns-2 c =
+    let a = c .before .before .before .before .before .args in
+    let d = sym (c .before .before .wide16 .ensures) ∙ c .if2 .taken in
+    let e = reaches-here (a .covers .now) (a .own) d in
+    (sym e, noted-already (a .covers .now) (a .own) (a .at) e d)
+
+sub-wide16 : tie.Need-sub-wide16
+sub-wide16 c = search needs
+
+mul-wide16-2 : tie.Need-mul-wide16-2
+mul-wide16-2 c = search needs
+
+slice-read-wide16-2 : tie.Need-slice-read-wide16-2
+slice-read-wide16-2 c = search needs
+
+wide16-requires-2 : tie.Need-wide16-requires-2
+wide16-requires-2 c κs = search needs
+
+add-if3 : tie.Need-add-if3
+add-if3 c = search needs
+
+-- Neither empty nor the cell's own: the entry's entry decides.
+looked : (c : tie.After-wide162) → let a = c .before .before .before .before .before .before .before .args in
+    coveredIn (a .covers .now) (a .own) (a .at) ≡ eqb (getD (a .covers .now) (c .before .before .before .before .wide16 .result - 1) 0) (a .own + 1)
+looked c =
+    let w = c .before .before .before .before in
+    let a = w .before .before .before .args in
+    ap (reaches (a .covers .now) (a .own)) (sym (w .wide16 .ensures))
+    ∙ sym (reaches-there (a .covers .now) (a .own) (w .wide16 .result) (c .before .before .before .if1 .left) (c .before .before .if2 .left))
+
+returns-3 : tie.Need-returns-3
+returns-3 c =
+    let a = c .before .before .before .before .before .before .before .before .args in
+    let e = looked (c .before) ∙ ne-eqb _ _ (λ d. c .if3 .taken (c .before .wide162 .ensures ∙ d)) in
+    (sym e, left-as-is (a .covers .now) (a .own) (a .at) e)
+
+note-requires : tie.Need-note-requires
+note-requires c κs = search needs
+
+same-length : tie.Need-same-length
+same-length c = search needs
+
+returns-4 : tie.Need-returns-4
+returns-4 c =
+    let w = c .before .before .before .before .before in
+    let a = w .before .before .before .before .before .before .before .args in
+    let e = looked w ∙ eq-eqb _ _ (sym (w .wide162 .ensures) ∙ c .before .before .before .before .if3 .left) in
+    (sym e, c .before .before .note .ensures ∙ noted-now (a .covers .now) (a .own) (a .at) e)
+
+pub passes-spec : {M : Type 1} → statement M
+passes-spec =
+    tie.close
+    (tie.spec
+    mul-wide16
+    slice-read-wide16
+    wide16-requires
+    returns
+    add-if2
+    returns-2
+    sub-wide16
+    mul-wide16-2
+    slice-read-wide16-2
+    wide16-requires-2
+    add-if3
+    returns-3
+    note-requires
+    same-length
+    returns-4)

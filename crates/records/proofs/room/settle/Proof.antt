@@ -1,0 +1,81 @@
+-- `room::settle` meets its contract. The loop's invariant: the first m records are settled.
+use Prim.Native.Nat.{ℕ, _+_, _-_, _*_, _≤_}
+use native.Mathlib.Omega.{arith}
+use mathlib.Core.Path.{_≡_, refl, _∙_, ap}
+use lib.ListN.{length, length-set}
+use Rattle.records.specs.Room.{settled}
+use Rattle.records.proofs.SettleLaws.{settled-length, settled-more}
+use Rattle.records.proofs.room.settle.Statement.{statement}
+use Rattle.records.proofs.room.settle.Tie as tie
+
+abbrev Inv-loop : tie.InvT-loop
+Inv-loop chart₀ count m₀ chart m = (m ≤ count) × (chart ≡ settled m chart₀)
+
+abbrev μ-loop : tie.MeasureT-loop
+μ-loop chart₀ count m₀ chart m = count - m
+
+loop-holds : tie.Need-loop-holds Inv-loop μ-loop
+loop-holds c = (omega arith, refl)
+
+-- The record at m lies within the room.
+inside : (c : tie.In-loop Inv-loop μ-loop) → 16 * c .before .loop .m + 16 ≤ length (c .before .loop .chart)
+inside c =
+    let l = c .before .loop in
+    let s = c .before .before in
+    omega (arith, ap length (l .inv .1), settled-length (l .m) (s .args .chart .now), s .pre, c .loop-test .taken)
+
+mul-chart : tie.Need-mul-chart Inv-loop μ-loop
+mul-chart c = omega (arith, inside c)
+
+add-chart : tie.Need-add-chart Inv-loop μ-loop
+add-chart c = omega (arith, inside c)
+
+slice-write-chart : tie.Need-slice-write-chart Inv-loop μ-loop
+slice-write-chart c = omega (arith, inside c)
+
+mul-chart-2 : tie.Need-mul-chart-2 Inv-loop μ-loop
+mul-chart-2 c = omega (arith, inside c)
+
+add-chart-2 : tie.Need-add-chart-2 Inv-loop μ-loop
+add-chart-2 c = omega (arith, inside c)
+
+slice-write-chart-2 : tie.Need-slice-write-chart-2 Inv-loop μ-loop
+slice-write-chart-2 c = simp length-set (omega (arith, inside c))
+
+add-m : tie.Need-add-m Inv-loop μ-loop
+add-m c = omega (arith, inside c)
+
+loop-less : tie.Need-loop-less Inv-loop μ-loop
+loop-less c = omega arith
+
+loop-again : tie.Need-loop-again Inv-loop μ-loop
+loop-again c =
+    (omega arith, settled-more (c .before .loop .m) (c .before .before .args .chart .now) (c .before .loop .chart) (c .before .loop .inv .1))
+
+same-length : tie.Need-same-length Inv-loop μ-loop
+same-length c =
+    ap length (c .before .loop .inv .1) ∙ settled-length (c .before .loop .m) (c .before .before .args .chart .now)
+
+returns : tie.Need-returns Inv-loop μ-loop
+returns c =
+    let all : c .before .loop .m ≡ c .before .before .args .count = omega arith in
+    c .before .loop .inv .1 ∙ ap (λ (m : ℕ). settled m (c .before .before .args .chart .now)) all
+
+pub settle-spec : {M : Type 1} → statement M
+settle-spec =
+    tie.close
+    (tie.spec
+    Inv-loop
+    μ-loop
+    loop-holds
+    mul-chart
+    add-chart
+    slice-write-chart
+    mul-chart-2
+    add-chart-2
+    slice-write-chart-2
+    add-m
+    loop-less
+    loop-again
+    same-length
+    returns)
