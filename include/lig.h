@@ -12,7 +12,7 @@
  *     lig_pairs        Which places does this plan pair? Writes them.
  *     lig_name         Where does the card spell this word?
  *
- * Link with liblig.a. Of the C library it wants memcpy and memset, and nothing else.
+ * Link with liblig.a. Of the C library it wants memset, and nothing else.
  *
  * What the calls ask of you; nothing on their side can see to it:
  *
@@ -251,18 +251,18 @@ uint64_t lig_name(const uint8_t *card, size_t card_length, size_t word);
  * and the arguments on the stack included:
  *
  *     line of        1 to 6 words   7 to 12 words   13 to 24 words
- *     lig_card_check     120             120             120
- *     lig_read        55,608          57,328          62,128
+ *     lig_card_check      88              88              88
+ *     lig_read        50,680          50,680          52,432
  *     lig_check          968             968             968
- *     lig_pairs        1,048           1,048           1,048
- *     lig_name           136             136             136
+ *     lig_pairs        1,032           1,032           1,032
+ *     lig_name           104             104             104
  *
- * lig_read takes 52,536 of them at once, for every line, also for one that it refuses. The figures
+ * lig_read takes 48,576 of them at once, for every line, also for one that it refuses. The figures
  * below have at least 128 bytes to spare, as much as a function may use below the stack pointer.
  * Interrupts that run on the same stack come on top.
  */
 #define LIG_STACK_CARD_CHECK 256
-#define LIG_STACK_READ 62464
+#define LIG_STACK_READ 52736
 #define LIG_STACK_CHECK 1280
 #define LIG_STACK_PAIRS 1280
 #define LIG_STACK_NAME 512
