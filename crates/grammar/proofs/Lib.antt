@@ -18,3 +18,4 @@ pub mod Unfolding
 pub mod PlanRuns
 pub mod PairsLaws
 pub mod PairsInside
+pub mod PairsCount

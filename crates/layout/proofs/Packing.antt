@@ -1,28 +1,26 @@
 -- Each part of a call's answer fits 16 bits, so that `pack` loses nothing: numbers are at most 35, words 24, items 65535, steps 47,
--- and a plan that passes has no more pairs than steps.
+-- and a plan that passes has fewer than half as many pairs as words.
 use Prim.Native.Nat.{ℕ, _+_, _*_, _-_, _/_, _≤_, _<_}
 use native.Mathlib.Omega.{arith}
 use mathlib.Core.Path.{_≡_, refl, sym, _∙_, ap, subst}
 use mathlib.Core.Bool.{Bool, true, false, cond, false≢true}
-use mathlib.Core.List.{List, [], _∷_}
-use mathlib.Core.Option.{Option, none, some}
+use mathlib.Core.List.{List, []}
 use lib.Dec.{eqb, leb, ltb}
-use lib.ListN.{length, getElem?}
+use lib.ListN.{length}
 use borrow.Author.Tests.{eqb-true, eq-eqb, leb-true, ltb-false}
-use Rattle.grammar.specs.Rewriting.{Rule, Lexical, Spine, Take, Keep, Give}
 use Rattle.grammar.specs.ItemList.{item, among}
 use Rattle.grammar.specs.Items.{bare}
-use Rattle.grammar.specs.Plan.{PlanStep, planStep}
-use Rattle.grammar.specs.Pairs.{Pair, pairsOf}
-use Rattle.grammar.proofs.PairsLaws.{oneGive, countRule, giveSteps, gives-count}
+use Rattle.grammar.specs.Pairs.{Pair}
+use Rattle.grammar.proofs.PairsCount.{pairs-half}
 use Rattle.layout.specs.Bytes.{check, allBytes}
-use Rattle.layout.specs.Card.{grammarOf, markFits, countsFit, lengthsFit, entriesFit, entriesDiffer, productionsFit, cardNumber}
+use Rattle.layout.specs.Card.{markFits, countsFit, lengthsFit, entriesFit, entriesDiffer, productionsFit, cardNumber}
 use Rattle.layout.specs.Line.{wordsOf, isLineByte, mostWords, allKnown, lineNumber}
 use Rattle.layout.specs.Records.{capacity}
 use Rattle.layout.specs.Steps.{planRoom, planSteps, stepsOf}
 use Rattle.layout.specs.Answers.{inputNumber, wordsIn, derivable, ReadAnswer, refusal, found, readAnswer}
 use Rattle.layout.specs.Answers.{planPasses, checkNumber, planPairs, PairsAnswer, pairsWithin, pairsAnswer}
-use Rattle.layout.proofs.Checking.{check-sound, derives-length, steps-bytes}
+use Rattle.layout.proofs.CardLaws.{card-one-sided}
+use Rattle.layout.proofs.Checking.{check-sound, steps-bytes}
 
 -- An accepted line has 1 to 24 words.
 passed-test : (b : Bool) (x y : ℕ) → (x ≡ 0 → ⊥) → check b x y ≡ 0 → (b ≡ true) × (y ≡ 0)
@@ -100,23 +98,16 @@ read-fits card line chartRoom room =
     (omega (arith, input-small card line)) (λ e. input-words card line (eqb-true x 0 e) .1)
     (λ e. omega (arith, ltb-false (capacity chartRoom) (length all) e))
 
--- Pairs.
-rule-gives : (r : Option Rule) → countRule oneGive r ≤ 1
-rule-gives none = omega arith
-rule-gives (some (Lexical A w)) = omega arith
-rule-gives (some (Spine A (Take γ) before D after)) = omega arith
-rule-gives (some (Spine A Keep before D after)) = omega arith
-rule-gives (some (Spine A (Give γ) before D after)) = omega arith
-
-gives-few : (g : List Rule) (plan : List PlanStep) → giveSteps g plan ≤ length plan
-gives-few g [] = omega arith
-gives-few g (planStep p i k j ∷ plan) = omega (arith, rule-gives (getElem? g p), gives-few g plan)
+-- Pairs: a plan of n words that passes has at most (n − 1) / 2.
+pub passing-pairs-half : (card line bytes : List ℕ) → checkNumber card line bytes ≡ 0
+    → 2 * length (planPairs card (stepsOf bytes)) + 1 ≤ wordsIn line
+passing-pairs-half card line bytes e =
+    let (e₁, plan, e₂, d) = check-sound card line bytes e in
+    rw (e₂, steps-bytes plan) (pairs-half (card-one-sided card) d)
 
 pairs-few : (card line bytes : List ℕ) → checkNumber card line bytes ≡ 0 → length (planPairs card (stepsOf bytes)) ≤ 47
 pairs-few card line bytes e =
-    let (e₁, plan, e₂, d) = check-sound card line bytes e in
-    let (h₁, h₂) = input-words card line e₁ in
-    rw (e₂, steps-bytes plan) (omega (arith, gives-count d, gives-few (grammarOf card) plan, derives-length card line d))
+    omega (arith, passing-pairs-half card line bytes e, input-words card line (check-sound card line bytes e .0) .1)
 
 pub record PairsFit (r : PairsAnswer) : Type 0 where
   pub number : r .number ≤ 35
