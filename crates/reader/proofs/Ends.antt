@@ -120,6 +120,7 @@ module _ (card line oldChart oldPlan : List ℕ) (s : Accepted) (x : Accepts car
         pub charted : Charted card newChart (s .count) count oldPlan
         charted =
             record {
+              accepted = answered-line x accepted .card-accepted;
               words = numbersOf card line;
               held = chart-held;
               some-words = count-within x accepted .0;

@@ -5,6 +5,7 @@ use mathlib.Core.Path.{_≡_}
 use mathlib.Core.Bool.{Bool, true, false}
 use mathlib.Core.List.{List}
 use lib.ListN.{length}
+use Rattle.layout.specs.Card.{cardNumber}
 use Rattle.layout.specs.Steps.{planRoom}
 use Rattle.layout.specs.Answers.{refusal, found}
 use Rattle.unfold.specs.Unfold.{Held, Planned, Found}
@@ -16,8 +17,9 @@ use Rattle.reader.specs.declared.read.Answer.{Answer}
 abbrev pub Refuses : ℕ → Answer → Type 0
 Refuses number r = answerFrom r ≡ refusal number
 
--- The first count records of the room are justified for some words, and a plan of n words has room.
+-- The card is accepted, the first count records of the room are justified for some words, and a plan of n words has room.
 pub record Charted (card chart : List ℕ) (n count : ℕ) (plan : List ℕ) : Type 0 where
+  pub accepted : cardNumber card ≡ 0
   pub words : List ℕ
   pub held : Held card words chart count
   pub some-words : 1 ≤ n

@@ -15,7 +15,7 @@ use Rattle.grammar.specs.Chart.{Record, onward, Pends, settled, awaits}
 use Rattle.grammar.proofs.Unfolding.{unfolds-yields}
 use Rattle.grammar.proofs.PlanSize.{plan-length, stack-depth}
 use Rattle.layout.specs.Bytes.{byteAt, wordAt}
-use Rattle.layout.specs.Card.{production, grammarOf}
+use Rattle.layout.specs.Card.{production, grammarOf, cardNumber}
 use Rattle.layout.specs.Records.{recordAt, chartIn}
 use Rattle.layout.specs.Steps.{stepBytes, planRoom}
 use Rattle.layout.proofs.CardLaws.{card-one-sided}
@@ -177,11 +177,13 @@ module _ {card words chart : List ℕ} {count p A i j x y : ℕ} {s s₁ p₁ s�
       omega (arith, ap length e, waiting-length stack base depth)
 
   -- After the step the first part has its room, and after the first part the second has.
-  module _ {old mid stack : List ℕ} {at rest base p′ i′ k′ j′ : ℕ} (room : at + planRoom (j - i) ≤ length old)
+  module _ {old mid stack : List ℕ} {at rest base p′ i′ k′ j′ : ℕ} (accepted : cardNumber card ≡ 0)
+      (room : at + planRoom (j - i) ≤ length old)
       (w : Wrote old at (stepBytes (planStep p′ i′ k′ j′)) mid rest) (whole : length stack ≡ 24) where
     pub first-asked : base + spanAt chart x ≤ 24 → Asked card chart x p₁ stack base mid rest
     first-asked short = let f = parts .first in let g = parts .second in
         record {
+          accepted = accepted;
           words = words;
           count = count;
           indices = s₁;
@@ -196,6 +198,7 @@ module _ {card words chart : List ℕ} {count p A i j x y : ℕ} {s s₁ p₁ s�
         → Asked card chart y p₂ stack base more next
     second-asked short u = let f = parts .first in let g = parts .second in
         record {
+          accepted = accepted;
           words = words;
           count = count;
           indices = s₂;

@@ -13,7 +13,7 @@ use Rattle.grammar.specs.Chart.{Record, recorded, itemOf, productionOf, onward,
 use Rattle.grammar.specs.Chart.{Justified, byWord, sideFirst, sideLast, Pends, settled, awaits}
 use Rattle.grammar.proofs.Unfolding.{justified-longer}
 use Rattle.layout.specs.Bytes.{byteAt, wordAt}
-use Rattle.layout.specs.Card.{production, grammarOf}
+use Rattle.layout.specs.Card.{production, productionCount, grammarOf}
 use Rattle.layout.specs.Records.{recordAt, chartIn}
 use Rattle.unfold.specs.Unfold.{Held}
 use Rattle.unfold.specs.Spine.{nameAt, fromAt, toAt, Ready}
@@ -127,3 +127,15 @@ pub turn : {card words chart : List ℕ} {count m : ℕ} {s pending : List ℕ} 
 turn {card} {words} {chart} {count} {m} r =
     turn-of card words chart count (r .held)
     (r .held .justified m (recordAt chart m) (table-stands (recordAt chart) (r .inside))) (r .pends)
+
+-- The production of a justified record is one of the card's.
+below-of : (card : List ℕ) {at : ℕ → ℕ → Type 0} {c : List Record} {m : ℕ} {e : Record} → Justified (grammarOf card) at c m e
+    → productionOf e < productionCount card
+below-of card (byWord {p = p} r a) = stands-below (production card) (productionCount card) p r
+below-of card (sideFirst {p = p} r x y o) = stands-below (production card) (productionCount card) p r
+below-of card (sideLast {p = p} r y x o) = stands-below (production card) (productionCount card) p r
+
+pub production-below : {card words chart : List ℕ} {count m : ℕ} {s pending : List ℕ} → Ready card words chart count m s pending
+    → byteAt chart (16 * m + 7) < productionCount card
+production-below {card} {words} {chart} {count} {m} r =
+    below-of card (r .held .justified m (recordAt chart m) (table-stands (recordAt chart) (r .inside)))

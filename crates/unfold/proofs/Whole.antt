@@ -30,6 +30,7 @@ start-asked {chart = chart} {count = count} {m = m} {n = n} u whole =
     let from = start-from chart m n (u .whole) in
     let to = start-to chart m n (u .whole) in
     record {
+      accepted = u .accepted;
       words = u .words;
       count = count;
       indices = [];

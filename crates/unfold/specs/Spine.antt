@@ -11,7 +11,7 @@ use Rattle.grammar.specs.ItemList.{item}
 use Rattle.grammar.specs.Chart.{itemOf, onward, Pends}
 use Rattle.grammar.specs.Plan.{PlanStep, Yields}
 use Rattle.layout.specs.Bytes.{byteAt, wordAt}
-use Rattle.layout.specs.Card.{grammarOf}
+use Rattle.layout.specs.Card.{grammarOf, cardNumber}
 use Rattle.layout.specs.Records.{recordAt, footThere, chartIn}
 use Rattle.layout.specs.Steps.{planBytes, planRoom}
 use Rattle.card.specs.Productions.{actionFrom}
@@ -87,9 +87,10 @@ pub record Ready (card words chart : List ℕ) (count m : ℕ) (s pending : List
   pub inside : m < count
   pub pends : Pends (chartIn chart count) (footThere chart m) s pending
 
--- What an unfolding asks: such a record, for some words and some stack of indices, a place on the lent stack above base for each of
+-- What an unfolding asks: an accepted card and such a record, for some words and some stack of indices, a place on the lent stack above base for each of
 -- its words, and room for its plan.
 pub record Asked (card chart : List ℕ) (m : ℕ) (pending stack : List ℕ) (base : ℕ) (plan : List ℕ) (at : ℕ) : Type 0 where
+  pub accepted : cardNumber card ≡ 0
   pub words : List ℕ
   pub count : ℕ
   pub indices : List ℕ

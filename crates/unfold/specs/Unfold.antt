@@ -9,7 +9,7 @@ use Rattle.grammar.specs.Items.{bare}
 use Rattle.grammar.specs.ItemList.{item}
 use Rattle.grammar.specs.Chart.{Record, Justified, itemOf}
 use Rattle.grammar.specs.Plan.{PlanStep, LeftmostDerivation}
-use Rattle.layout.specs.Card.{grammarOf}
+use Rattle.layout.specs.Card.{grammarOf, cardNumber}
 use Rattle.layout.specs.Records.{recordAt, chartIn}
 use Rattle.layout.specs.Steps.{planBytes, planRoom}
 use Rattle.unfold.specs.declared.Start.{Start}
@@ -22,8 +22,9 @@ pub record Held (card words chart : List ℕ) (count : ℕ) : Type 0 where
   pub justified : (m : ℕ) (e : Record) → Stands (chartIn chart count) m e
       → Justified (grammarOf card) (Holds (wordIs words)) (chartIn chart count) m e
 
--- What unfolding asks: such a room, with the item of the start over n words at position m, and room for its plan.
+-- What unfolding asks: an accepted card and such a room, with the item of the start over n words at position m, and room for its plan.
 pub record Unfoldable (card chart : List ℕ) (count m n : ℕ) (plan : List ℕ) : Type 0 where
+  pub accepted : cardNumber card ≡ 0
   pub words : List ℕ
   pub held : Held card words chart count
   pub inside : m < count

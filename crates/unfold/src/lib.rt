@@ -148,7 +148,7 @@ fn spine(
     ensures { λ r. ⌜ Stays base (now (stack .entry)) (now (stack .exit)) ⌝ }
 {
     let s = step_at(chart, m);
-    let rule = card::decode(card, s.production);
+    let rule = card::production_in(card, wide(s.production));
     match rule {
         Production::Word { .. } => put_step(plan, at, s.production, s.from, s.to, s.to),
         Production::SideFirst { action, .. } => {

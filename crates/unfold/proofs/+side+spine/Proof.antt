@@ -3,14 +3,17 @@
 use Prim.Native.Nat.{ℕ, _+_, _*_, _<_}
 use native.Mathlib.Nat.{le-refl}
 use native.Mathlib.Omega.{arith}
-use mathlib.Core.Path.{_≡_, refl, _∙_}
+use mathlib.Core.Path.{_≡_, refl, _∙_, ap}
 use mathlib.Core.List.{List, []}
 use borrow.Author.Needs.{needs}
 use borrow.Fn.Kinds.{In}
 use borrow.Fn.PlainCycle.{Measures, is, falls, and}
 use denote.Ref.{now}
+use Rattle.layout.specs.Card.{production}
+use Rattle.card.specs.Productions.{ruleFrom}
 use Rattle.unfold.specs.Spine.{spanAt, waiting, Ready}
 use Rattle.unfold.proofs.Waiting.{untouched, stays-then, stays-below, waiting-stays}
+use Rattle.unfold.proofs.Turns.{production-below}
 use Rattle.unfold.proofs.Spines.{record-inside, depth-fits, side-ready, side-asked, step-room, lone, word-turn, FirstParts, first-turn, LastParts, last-turn}
 use Rattle.unfold.proofs.Spines.{first-shorter, second-shorter, meeting, first-above, first-asked, second-asked, first-step, last-step, joined}
 use Rattle.unfold.proofs.side.Reads as side
@@ -19,7 +22,8 @@ use Rattle.unfold.proofs.+side+spine.Lts-side as side-lts
 use Rattle.unfold.proofs.spine.Reads as spine
 use Rattle.unfold.proofs.spine.Kinds as spine-kinds
 use Rattle.unfold.proofs.+side+spine.Lts-spine as spine-lts
-use Rattle.card.proofs.decode.Reads as decode-reads
+use Rattle.card.proofs.bytes.wide.Reads as wide-reads
+use Rattle.card.proofs.production_in.Reads as production-in-reads
 use Rattle.unfold.proofs.onward.Reads as onward-reads
 use Rattle.unfold.proofs.put_step.Reads as put-step-reads
 use Rattle.unfold.proofs.step_at.Reads as step-at-reads
@@ -49,8 +53,10 @@ abbrev called : ℕ → spine-lts.Claims
 called t = (
   step-at-reads.Asked,
   step-at-reads.Learnt,
-  decode-reads.Asked,
-  decode-reads.Learnt,
+  wide-reads.Asked,
+  wide-reads.Learnt,
+  production-in-reads.Asked,
+  production-in-reads.Learnt,
   put-step-reads.Asked,
   put-step-reads.Learnt,
   onward-reads.Asked,
@@ -78,13 +84,25 @@ side-returns t c =
 spine-step-at-requires : (t : ℕ) → spine-lts.Need-step-at-requires (called t) (spine-at t) spine.Post
 spine-step-at-requires t c κs = record-inside (c .before .before .before .pre .1 .1 .ready)
 
-spine-decode-requires : (t : ℕ) → spine-lts.Need-decode-requires (called t) (spine-at t) spine.Post
-spine-decode-requires t c κs = tt
+spine-wide-requires : (t : ℕ) → spine-lts.Need-wide-requires (called t) (spine-at t) spine.Post
+spine-wide-requires t c κs = tt
+
+-- A record's production is one of the card's.
+spine-production-in-requires : (t : ℕ) → spine-lts.Need-production-in-requires (called t) (spine-at t) spine.Post
+spine-production-in-requires t c κs =
+    let read = c .before in
+    let asked = read .before .before .before .before .pre .1 .1 in
+    (asked .accepted, omega (arith, c .wide .ensures, read .step-at .ensures .production, production-below (asked .ready)))
 
 -- The entry, seen from where the rule is decoded.
-abbrev began : {t : ℕ} → spine-lts.After-decode (called t) (spine-at t) spine.Post
+abbrev began : {t : ℕ} → spine-lts.After-production-in (called t) (spine-at t) spine.Post
     → spine-lts.Start (called t) (spine-at t) spine.Post
-began c = c .before .before .before .before .before
+began c = c .before .before .before .before .before .before
+
+-- The rule is that of the record's step.
+decoded : {t : ℕ} (c : spine-lts.After-production-in (called t) (spine-at t) spine.Post)
+    → ruleFrom (c .production-in .result) ≡ production (now (began c .args .card)) (c .before .before .step-at .result .production)
+decoded c = c .production-in .ensures ∙ ap (production (now (began c .args .card))) (c .before .wide .ensures .0)
 
 -- A word.
 spine-enum-told : (t : ℕ) → spine-lts.Need-enum-told (called t) (spine-at t) spine.Post
@@ -103,7 +121,7 @@ spine-returns t c =
     let d = told .before .before in
     let a = began d .args in (
       λ words count s ready. lone
-          (word-turn (now (a .stack)) (a .base) (a .depth) _ _ ready (d .before .step-at .ensures) (d .decode .ensures) (told .enum-told .given .1))
+          (word-turn (now (a .stack)) (a .base) (a .depth) _ _ ready (d .before .before .step-at .ensures) (decoded d) (told .enum-told .given .1))
           (put .put-step .ensures),
       untouched,
     )
@@ -114,10 +132,10 @@ first-parts : {t : ℕ} (c : spine-lts.After-onward (called t) (spine-at t) spin
     Ready (now (a .card)) words (now (a .chart)) count (a .m) s (waiting (now (a .stack)) (a .base) (a .depth))
     → rest ≡ waiting (c .onward .last .1 .1 .0) (a .base) (c .onward .result .depth)
     → FirstParts (now (a .card)) words (now (a .chart)) count (a .m) s
-    (c .before .before .before .before .before .before .step-at .result) (c .onward .result .position) rest
+    (c .before .before .before .before .before .before .before .step-at .result) (c .onward .result .position) rest
 first-parts c ready same =
     let d = c .before .before .before .before .before in
-    first-turn _ _ _ _ _ ready (d .before .step-at .ensures) (d .decode .ensures) (c .before .before .before .rule .given .1)
+    first-turn _ _ _ _ _ ready (d .before .before .step-at .ensures) (decoded d) (c .before .before .before .rule .given .1)
     (c .onward .ensures) same
 
 spine-enum-known-rule : (t : ℕ) → spine-lts.Need-enum-known-rule (called t) (spine-at t) spine.Post
@@ -127,7 +145,7 @@ spine-onward-requires : (t : ℕ) → spine-lts.Need-onward-requires (called t) 
 spine-onward-requires t c κs =
     let d = c .before .before .before .before in
     let own = began d .pre .1 in
-    depth-fits _ _ _ (own .0) (own .1) (d .before .step-at .ensures)
+    depth-fits _ _ _ (own .0) (own .1) (d .before .before .step-at .ensures)
 
 spine-step-at-requires-2 : (t : ℕ) → spine-lts.Need-step-at-requires-2 (called t) (spine-at t) spine.Post
 spine-step-at-requires-2 t c κs =
@@ -146,7 +164,7 @@ spine-side-requires t c κs =
     let goes = gone .onward .ensures in
     let (k, parts) = first-parts gone (asked .ready) refl in (
       omega (arith, own .0, first-shorter parts),
-      first-asked parts (asked .room) (put .put-step2 .ensures) (goes .stays .long ∙ asked .whole)
+      first-asked parts (asked .accepted) (asked .room) (put .put-step2 .ensures) (goes .stays .long ∙ asked .whole)
           (omega (arith, goes .above, first-above parts _ refl (goes .above) (asked .short))),
     )
 
@@ -163,8 +181,8 @@ spine-spine-requires t c κs =
       omega (arith, own .0, second-shorter parts),
       (
         goes .above,
-        second-asked parts (asked .room) (put .put-step2 .ensures) (stays .long ∙ goes .stays .long ∙ asked .whole) (asked .short)
-            (plans _ _ _ (parts .first .ready)),
+        second-asked parts (asked .accepted) (asked .room) (put .put-step2 .ensures) (stays .long ∙ goes .stays .long ∙ asked .whole)
+            (asked .short) (plans _ _ _ (parts .first .ready)),
       ),
     )
 
@@ -185,7 +203,7 @@ spine-returns-2 t c =
     let (firsts, kept) = past .side .ensures in
     let (seconds, stays) = last .spine .ensures in (
       λ words count s ready. let (k, parts) = first-parts gone ready (waiting-stays _ _ (goes .above) kept) in
-          joined parts (first-step (gone .before .before .before .before .before .before .step-at .ensures) (read .step-at2 .ensures))
+          joined parts (first-step (gone .before .before .before .before .before .before .before .step-at .ensures) (read .step-at2 .ensures))
           (put .put-step2 .ensures) (firsts words count [] (parts .first .ready)) (seconds words count k (parts .second .ready)),
       stays-then (goes .stays) (stays-then (stays-below _ _ (goes .above) kept) stays),
     )
@@ -195,11 +213,11 @@ last-parts : {t : ℕ} (c : spine-lts.After-onward2 (called t) (spine-at t) spin
     → let a = began (c .before .before .before .before .before) .args in
     Ready (now (a .card)) words (now (a .chart)) count (a .m) s (waiting (now (a .stack)) (a .base) (a .depth))
     → LastParts (now (a .card)) words (now (a .chart)) count (a .m) s
-    (c .before .before .before .before .before .before .step-at .result) (c .onward2 .result .position)
+    (c .before .before .before .before .before .before .before .step-at .result) (c .onward2 .result .position)
     (waiting (c .onward2 .last .1 .1 .0) (a .base) (c .onward2 .result .depth))
 last-parts c ready =
     let d = c .before .before .before .before .before in
-    last-turn _ _ _ _ _ ready (d .before .step-at .ensures) (d .decode .ensures) (c .before .before .before .rule2 .given .1)
+    last-turn _ _ _ _ _ ready (d .before .before .step-at .ensures) (decoded d) (c .before .before .before .rule2 .given .1)
     (c .onward2 .ensures)
 
 spine-enum-known-rule-2 : (t : ℕ) → spine-lts.Need-enum-known-rule-2 (called t) (spine-at t) spine.Post
@@ -209,7 +227,7 @@ spine-onward-requires-2 : (t : ℕ) → spine-lts.Need-onward-requires-2 (called
 spine-onward-requires-2 t c κs =
     let d = c .before .before .before .before in
     let own = began d .pre .1 in
-    depth-fits _ _ _ (own .0) (own .1) (d .before .step-at .ensures)
+    depth-fits _ _ _ (own .0) (own .1) (d .before .before .step-at .ensures)
 
 spine-step-at-requires-3 : (t : ℕ) → spine-lts.Need-step-at-requires-3 (called t) (spine-at t) spine.Post
 spine-step-at-requires-3 t c κs =
@@ -230,7 +248,7 @@ spine-spine-requires-2 t c κs =
       omega (arith, own .0, first-shorter parts),
       (
         goes .above,
-        first-asked parts (asked .room) (put .put-step3 .ensures) (goes .stays .long ∙ asked .whole)
+        first-asked parts (asked .accepted) (asked .room) (put .put-step3 .ensures) (goes .stays .long ∙ asked .whole)
             (omega (arith, asked .short, first-shorter parts)),
       ),
     )
@@ -245,8 +263,8 @@ spine-side-requires-2 t c κs =
     let (plans, stays) = past .spine2 .ensures in
     let (k, parts) = last-parts gone (asked .ready) in (
       omega (arith, own .0, second-shorter parts),
-      second-asked parts (asked .room) (put .put-step3 .ensures) (stays .long ∙ gone .onward2 .ensures .stays .long ∙ asked .whole)
-          (asked .short) (plans _ _ _ (parts .first .ready)),
+      second-asked parts (asked .accepted) (asked .room) (put .put-step3 .ensures)
+          (stays .long ∙ gone .onward2 .ensures .stays .long ∙ asked .whole) (asked .short) (plans _ _ _ (parts .first .ready)),
     )
 
 spine-same-length-3 : (t : ℕ) → spine-lts.Need-same-length-3 (called t) (spine-at t) spine.Post
@@ -266,7 +284,7 @@ spine-returns-3 t c =
     let (seconds, stays) = last .side2 .ensures in (
       λ words count s ready. let (k, parts) = last-parts gone ready in
           joined parts
-          (last-step (gone .before .before .before .before .before .before .step-at .ensures) (read .step-at3 .ensures) (meeting parts))
+          (last-step (gone .before .before .before .before .before .before .before .step-at .ensures) (read .step-at3 .ensures) (meeting parts))
           (put .put-step3 .ensures) (firsts words count k (parts .first .ready)) (seconds words count [] (parts .second .ready)),
       stays-then (gone .onward2 .ensures .stays) (stays-then kept stays),
     )
@@ -288,7 +306,8 @@ pub +side+spine-spec : {M : Type 1} → statement M
     (spine-at t)
     spine.Post
     (spine-step-at-requires t)
-    (spine-decode-requires t)
+    (spine-wide-requires t)
+    (spine-production-in-requires t)
     (spine-enum-told t)
     (spine-put-step-requires t)
     (spine-enum-known-rule t)
