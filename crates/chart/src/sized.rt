@@ -92,6 +92,27 @@ fn build_short(card: &[u8], words: &[u8; 24], n: usize, room: usize, chart: &mut
     )
 }
 
+fn build_eight_few(card: &[u8], words: &[u8; 24], n: usize, room: usize, chart: &mut [u8]) -> usize
+    requires { ⌜ Buildable (now card) (now words) n × RoomLent room (now chart) × (n ≤ 8) × (nonterminalCount (now card) ≤ 6) ⌝ }
+    ensures { λ r. ⌜ Closed n (nonterminalCount (now (card .entry))) room (build room (grammarOf (now (card .entry))) (wordIs (take n (now (words .entry)))) (nonterminalCount (now (card .entry))) n) (now (chart .entry)) (now (chart .exit)) r ⌝ }
+{
+    let mut marks = [0u8; 217];
+    let mut index = [0u16; 648];
+    let mut covers = [0u16; 216];
+    let mut sets = [0u64; 90];
+    build_with(
+        card,
+        words,
+        n,
+        room,
+        chart,
+        &mut marks,
+        &mut index,
+        &mut covers,
+        &mut sets,
+    )
+}
+
 fn build_middle_few(card: &[u8], words: &[u8; 24], n: usize, room: usize, chart: &mut [u8]) -> usize
     requires { ⌜ Buildable (now card) (now words) n × RoomLent room (now chart) × (n ≤ 12) × (nonterminalCount (now card) ≤ 6) ⌝ }
     ensures { λ r. ⌜ Closed n (nonterminalCount (now (card .entry))) room (build room (grammarOf (now (card .entry))) (wordIs (take n (now (words .entry)))) (nonterminalCount (now (card .entry))) n) (now (chart .entry)) (now (chart .exit)) r ⌝ }
@@ -121,6 +142,33 @@ fn build_middle(card: &[u8], words: &[u8; 24], n: usize, room: usize, chart: &mu
     let mut index = [0u16; 3744];
     let mut covers = [0u16; 1248];
     let mut sets = [0u64; 182];
+    build_with(
+        card,
+        words,
+        n,
+        room,
+        chart,
+        &mut marks,
+        &mut index,
+        &mut covers,
+        &mut sets,
+    )
+}
+
+fn build_sixteen_few(
+    card: &[u8],
+    words: &[u8; 24],
+    n: usize,
+    room: usize,
+    chart: &mut [u8],
+) -> usize
+    requires { ⌜ Buildable (now card) (now words) n × RoomLent room (now chart) × (n ≤ 16) × (nonterminalCount (now card) ≤ 6) ⌝ }
+    ensures { λ r. ⌜ Closed n (nonterminalCount (now (card .entry))) room (build room (grammarOf (now (card .entry))) (wordIs (take n (now (words .entry)))) (nonterminalCount (now (card .entry))) n) (now (chart .entry)) (now (chart .exit)) r ⌝ }
+{
+    let mut marks = [0u8; 817];
+    let mut index = [0u16; 2448];
+    let mut covers = [0u16; 816];
+    let mut sets = [0u64; 306];
     build_with(
         card,
         words,
@@ -186,6 +234,11 @@ pub fn build_in(card: &[u8], words: &[u8; 24], n: usize, room: usize, chart: &mu
             return build_least(card, words, n, room, chart);
         }
     }
+    if n <= 8 {
+        if symbols <= 6 {
+            return build_eight_few(card, words, n, room, chart);
+        }
+    }
     if n <= 6 {
         return build_short(card, words, n, room, chart);
     }
@@ -194,6 +247,11 @@ pub fn build_in(card: &[u8], words: &[u8; 24], n: usize, room: usize, chart: &mu
             return build_middle_few(card, words, n, room, chart);
         }
         return build_middle(card, words, n, room, chart);
+    }
+    if n <= 16 {
+        if symbols <= 6 {
+            return build_sixteen_few(card, words, n, room, chart);
+        }
     }
     if symbols <= 6 {
         return build_long_few(card, words, n, room, chart);
