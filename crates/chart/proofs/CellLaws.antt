@@ -14,21 +14,22 @@ use lib.Bits.{bitOr}
 use lib.Dec.{eqb}
 use lib.ListN.{length, getD, getElem?, take, length-take}
 use borrow.Author.Tests.{eq-eqb, ne-eqb}
-use Rattle.grammar.specs.Lists.{concatMap, only}
-use Rattle.grammar.specs.Rewriting.{Rule, Lexical, Spine, Action, Take, Keep, Give}
+use Rattle.grammar.specs.Lists.{only}
+use Rattle.grammar.specs.Rewriting.{Rule, Lexical, Spine}
 use Rattle.grammar.specs.Items.{bare}
 use Rattle.grammar.specs.ItemList.{item}
 use Rattle.grammar.specs.Chart.{Record, recorded, nowhere}
 use Rattle.card.specs.Productions.{ruleFrom}
 use Rattle.card.specs.declared.Production.{Production}
 use Rattle.card.specs.declared.Production.the-variants.{Word}
-use Rattle.chart_model.specs.Build.{flatUp, places, barePlaces, byAction, byRule, dependentFirst, turned, ruleAt, byWord, byRuleOver, byProduction, candidates}
+use Rattle.chart_model.specs.Build.{flatUp, barePlaces, byRule, dependentFirst, turned, ruleAt, byWord, byRuleOver, byProduction, candidates}
 use Rattle.chart_model.proofs.BuildLaws.{turned-within, turned-twice}
 use Rattle.records.specs.Bits.{bitOf}
 use Rattle.records.specs.Room.{chartIn, footNumber}
 use Rattle.records.specs.Index.{spans, Indexed}
 use Rattle.chart.specs.Tables.{FirstAbsent, SecondAbsent, leftIs, packedRule, rulesFrom, grammarIn, byOne, chosen, CellSet, thisWord, isWordOf, Least, Without, Splits, Turns}
-use Rattle.steps.proofs.StepLaws.{flatUp-add, flatUp-none}
+use Rattle.chart_model.proofs.Absent.{concatMap-none, flatUp-none, choice-none, action-none}
+use Rattle.steps.proofs.StepLaws.{flatUp-add}
 use Rattle.steps.proofs.StepCover.{Advancing, advance-skip}
 use Rattle.records.proofs.TableLaws.{spans-twice}
 use Rattle.records.proofs.BitLaws.{bitOf-below, bitOf-zero, bitOf-or, bitOf-power, bitOf-other}
@@ -53,37 +54,24 @@ pub grammar-there : (rules : List ℕ) (many p : ℕ) → p < many → p < lengt
 grammar-there rules many p a b = getElem-take many (rulesFrom rules) p a ∙ rule-there rules p b
 
 -- A rule that adds nothing.
-no-results : {A B : Type 0} (f : A → List B) (l : List A) → ((x : A) → f x ≡ []) → concatMap f l ≡ []
-no-results f [] h = refl
-no-results f (x ∷ l) h = rw (h x) (no-results f l h)
-
-no-dependent : (b : List Record) (a : Action) (D k m A i j p x : ℕ) → places b D k m ≡ [] → byAction b a D k m A i j p x ≡ []
-no-dependent b (Take γ) D k m A i j p x e = rw e
-no-dependent b Keep D k m A i j p x e = rw e
-no-dependent b (Give γ) D k m A i j p x e = rw e
-
-unless : (t : Bool) (l : List Record) → l ≡ [] → _≡_ {A = List Record} (elim t [ true ↦ l | false ↦ [] ]) []
-unless true l e = e
-unless false l e = refl
-
 pub absent-first : (b : List Record) (A i k j p : ℕ) (r : Rule) → FirstAbsent b i k r → byRule b A i k j p r ≡ []
 absent-first b A i k j p (Lexical A′ w) h = refl
-absent-first b A i k j p (Spine A′ a (B ∷ []) D []) h = unless (eqb A′ A) _ (rw h)
+absent-first b A i k j p (Spine A′ a (B ∷ []) D []) h = choice-none (eqb A′ A) _ (rw h)
 absent-first b A i k j p (Spine A′ a (B ∷ []) D (C ∷ after)) h = refl
 absent-first b A i k j p (Spine A′ a (B ∷ C ∷ before) D after) h = refl
 absent-first b A i k j p (Spine A′ a [] D []) h = refl
 absent-first b A i k j p (Spine A′ a [] D (B ∷ [])) h =
-    unless (eqb A′ A) _ (no-results _ (barePlaces b B k j) (λ x. no-dependent b a D i k A i j p x h))
+    choice-none (eqb A′ A) _ (concatMap-none _ (barePlaces b B k j) (λ x. action-none b a D i k A i j p x h))
 absent-first b A i k j p (Spine A′ a [] D (B ∷ C ∷ after)) h = refl
 
 pub absent-second : (b : List Record) (A i k j p : ℕ) (r : Rule) → SecondAbsent b k j r → byRule b A i k j p r ≡ []
 absent-second b A i k j p (Lexical A′ w) h = refl
 absent-second b A i k j p (Spine A′ a (B ∷ []) D []) h =
-    unless (eqb A′ A) _ (no-results _ (barePlaces b B i k) (λ x. no-dependent b a D k j A i j p x h))
+    choice-none (eqb A′ A) _ (concatMap-none _ (barePlaces b B i k) (λ x. action-none b a D k j A i j p x h))
 absent-second b A i k j p (Spine A′ a (B ∷ []) D (C ∷ after)) h = refl
 absent-second b A i k j p (Spine A′ a (B ∷ C ∷ before) D after) h = refl
 absent-second b A i k j p (Spine A′ a [] D []) h = refl
-absent-second b A i k j p (Spine A′ a [] D (B ∷ [])) h = unless (eqb A′ A) _ (rw h)
+absent-second b A i k j p (Spine A′ a [] D (B ∷ [])) h = choice-none (eqb A′ A) _ (rw h)
 absent-second b A i k j p (Spine A′ a [] D (B ∷ C ∷ after)) h = refl
 
 pub not-own : (b : List Record) (A i k j p : ℕ) (r : Rule) → (leftIs A r → ⊥) → byRule b A i k j p r ≡ []

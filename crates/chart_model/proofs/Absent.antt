@@ -1,12 +1,10 @@
 -- A cell has no candidates where no rule makes any: none for its word, and none at any split of its span.
 -- And a rule makes none of a dependent that is not there. Each list is empty since each of its parts is.
 use Prim.Native.Nat.{ℕ, zero, suc, _+_, _-_, _≤_, _<_}
-use native.Mathlib.Nat.{zero-add}
-use native.Mathlib.Decide.{ℕ-discrete}
 use native.Mathlib.Omega.{arith}
-use mathlib.Core.Path.{_≡_, refl, sym}
-use mathlib.Core.Bool.{Bool, true, false, false≢true}
-use mathlib.Core.List.{List, [], _∷_, append-nil}
+use mathlib.Core.Path.{_≡_, refl}
+use mathlib.Core.Bool.{Bool, true, false}
+use mathlib.Core.List.{List, [], _∷_}
 use mathlib.Core.Option.{Option, none, some}
 use lib.ListN.{length, getElem?}
 use Rattle.grammar.specs.Lists.{concatMap}
@@ -24,30 +22,9 @@ flatUp-none f from zero h = refl
 flatUp-none f from (suc m) h =
     rw (flatUp-none f from m (λ k a b. h k a (omega arith)), h (from + m) (omega arith) (omega arith))
 
--- Places that have nothing may be counted too.
-pub flatUp-past : {A : Type 0} (f : ℕ → List A) (m k : ℕ) → m ≤ k → ((l : ℕ) → m ≤ l → f l ≡ []) → flatUp f 0 k ≡ flatUp f 0 m
-flatUp-past f m zero h e = let q : m ≡ 0 = omega arith in rw q
-flatUp-past f m (suc k) h e = elim (ℕ-discrete m (suc k)) [
-  | yes q ↦ rw q
-  | no d ↦ rw (zero-add, e k (omega arith), append-nil) (flatUp-past f m k (omega arith) e)
-]
-
-pub flatUp-same : {A : Type 0} (f g : ℕ → List A) (from m : ℕ) → ((k : ℕ) → f k ≡ g k) → flatUp f from m ≡ flatUp g from m
-flatUp-same f g from zero e = refl
-flatUp-same f g from (suc m) e = rw (flatUp-same f g from m e, e (from + m))
-
-pub getElem-past : {A : Type 0} (l : List A) (k : ℕ) → length l ≤ k → getElem? l k ≡ none
-getElem-past [] k h = refl
-getElem-past (x ∷ l) zero h = absurd (omega arith)
-getElem-past (x ∷ l) (suc k) h = getElem-past l k (omega arith)
-
 pub choice-none : {A : Type 0} (b : Bool) (l : List A) → l ≡ [] → _≡_ {A = List A} (elim b [ true ↦ l | false ↦ [] ]) []
 choice-none true l e = e
 choice-none false l e = refl
-
-pub choice-false : {A : Type 0} (b : Bool) (l : List A) → b ≡ false → _≡_ {A = List A} (elim b [ true ↦ l | false ↦ [] ]) []
-choice-false true l e = absurd (false≢true (sym e))
-choice-false false l e = refl
 
 option-none : {A B : Type 0} (f : A → List B) (o : Option A) → ((a : A) → o ≡ some a → f a ≡ [])
     → _≡_ {A = List B} (elim o [ none ↦ [] | some a ↦ f a ]) []

@@ -15,6 +15,7 @@ use Rattle.grammar.specs.Chart.{Record, recorded}
 use Rattle.layout.specs.Bytes.{counted}
 use Rattle.chart_model.specs.Build.{flatUp, footAt, addEach}
 use Rattle.chart_model.proofs.BuildLaws.{flatUp-more, addEach-append, addEach-none}
+use Rattle.chart_model.proofs.Absent.{flatUp-none}
 use Rattle.records.specs.declared.record.Foot as declared
 use Rattle.records.specs.Room.{footThere, footFrom, footFields, chartIn, stateOf, FootFits, Writable, footNumber, numberThere, Working, Added}
 use Rattle.records.proofs.AddLaws.{state-fits, state-over}
@@ -38,11 +39,6 @@ module _ {A : Type 0} (f : ℕ → List A) where
   flatUp-first : (from m : ℕ) → flatUp f from (suc m) ≡ f from ++ flatUp f (suc from) m
   flatUp-first from zero = rw (add-zero, append-nil)
   flatUp-first from (suc m) = rw (flatUp-first from m, append-assoc, add-suc, suc-add)
-
-  pub flatUp-none : (from m : ℕ) → ((k : ℕ) → from ≤ k → k < from + m → f k ≡ []) → flatUp f from m ≡ []
-  flatUp-none from zero h = refl
-  flatUp-none from (suc m) h =
-      rw (flatUp-none from m (λ k a b. h k a (omega arith))) (h (from + m) (omega arith) (omega arith))
 
   pub concatMap-counted : (from m : ℕ) → concatMap f (counted from m) ≡ flatUp f from m
   concatMap-counted from zero = refl
