@@ -1,13 +1,13 @@
 -- Bits of a number. `bitOf` goes down the binary digits as the bit operations do, so each law is one step of theirs and an
 -- induction on the place. The laws hold of all numbers, whatever their width.
-use Prim.Native.Nat.{ℕ, zero, suc, _+_, _*_, _/_, _%_, _^_, _≤_, _<_, min, max}
-use native.Mathlib.Nat.{div-one, div-eq-of-lt, div-lt-iff-lt-mul, div-div-eq-div-mul, pow-succ'}
+use Prim.Native.Nat.{ℕ, zero, suc, _+_, _*_, _/_, _%_, _^_, _<_, min, max}
+use native.Mathlib.Nat.{pow-succ'}
 use native.Mathlib.Omega.{arith}
-use native.Mathlib.Decide.{ℕ-discrete, decLt}
+use native.Mathlib.Decide.{ℕ-discrete}
 use mathlib.Core.Path.{_≡_, refl, sym, ap, ap₂, _∙_}
 use mathlib.Core.Bool.{not, _||_}
 use lib.Dec.{eqb}
-use lib.Pow.{pow-pos, pow-mono, shl-exact, shr-shr}
+use lib.Pow.{pow-pos, shl-exact}
 use lib.Bits.{bitAnd, bitOr, and-step, or-step, and-zero-r}
 use borrow.Author.Tests.{eq-eqb, ne-eqb}
 use Rattle.records.specs.Bits.{bitOf, holdsBit}
@@ -19,11 +19,6 @@ bitOf-below (suc b) x = bitOf-below b (x / 2)
 pub bitOf-zero : (b : ℕ) → bitOf b 0 ≡ 0
 bitOf-zero zero = refl
 bitOf-zero (suc b) = bitOf-zero b
-
--- Bit b is what is left of x after b halvings, odd or even.
-pub bitOf-value : (b x : ℕ) → bitOf b x ≡ (x / 2 ^ b) % 2
-bitOf-value zero x = rw div-one
-bitOf-value (suc b) x = rw (pow-succ', ← (div-div-eq-div-mul x 2 (2 ^ b))) (bitOf-value b (x / 2))
 
 -- Of the bits of two numbers, the greater and the smaller.
 or-half : (x y : ℕ) → bitOr x y / 2 ≡ bitOr (x / 2) (y / 2)
@@ -101,20 +96,3 @@ holdsBit-more a b x = elim (ℕ-discrete a b) [
 -- `1 << b` in w bits.
 pub one-shifted : (b w : ℕ) → b < w → (1 * 2 ^ b) % 2 ^ w ≡ 2 ^ b
 one-shifted b w h = shl-exact {a = 1} 1 b w (omega arith) (omega arith) ∙ omega arith
-
--- A walk over the bits by halving: what is left after b turns is x / 2 ^ b. Once it is 0 no bit is left, and until then b is below
--- the width.
-pub halved-more : (b x : ℕ) → x / 2 ^ b / 2 ≡ x / 2 ^ (b + 1)
-halved-more b x = shr-shr x b 1
-
-pub halved-out : (a b x : ℕ) → x / 2 ^ b ≡ 0 → b ≤ a → bitOf a x ≡ 0
-halved-out a b x e h =
-    let below : x < 1 * 2 ^ b = div-lt-iff-lt-mul (pow-pos b) .0 (omega arith) in
-    let none : x / 2 ^ a ≡ 0 = div-eq-of-lt (omega (arith, pow-mono h)) in
-    omega (arith, bitOf-value a x)
-
-pub halved-left : (b w x : ℕ) → x < 2 ^ w → (x / 2 ^ b ≡ 0 → ⊥) → b < w
-halved-left b w x h d = elim (decLt b w) [
-  | yes l ↦ l
-  | no n ↦ let over : w ≤ b = omega arith in absurd (d (div-eq-of-lt (omega (arith, pow-mono over))))
-]

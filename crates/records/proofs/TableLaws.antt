@@ -27,13 +27,6 @@ pub spans-twice : (n : ℕ) → n * suc n ≡ 2 * spans n
 spans-twice zero = refl
 spans-twice (suc n) = omega (arith, spans-twice n, mul-suc (suc n) (suc n), mul-suc (suc n) n, mul-comm n (suc n))
 
-pub spans-first : (i : ℕ) → i * (i + 1) / 2 ≡ spans (i + 1 - 1)
-spans-first i = let e : i + 1 - 1 ≡ i = omega arith in let s : i + 1 ≡ suc i = omega arith in rw (e, s) (omega (arith, spans-twice i))
-
-pub spans-next : (k : ℕ) → 0 < k → spans (k - 1) + k ≡ spans (k + 1 - 1)
-spans-next zero h = absurd (omega arith)
-spans-next (suc k) h = let e : suc k - 1 ≡ k = omega arith in let s : suc k + 1 - 1 ≡ suc k = omega arith in rw (e, s) refl
-
 spans-on : (m d : ℕ) → spans m ≤ spans (m + d)
 spans-on m zero = rw add-zero (le-refl (spans m))
 spans-on m (suc d) = rw add-suc (omega (arith, spans-on m d))
