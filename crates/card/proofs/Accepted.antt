@@ -15,7 +15,7 @@ use Rattle.layout.specs.Card.{markFits, countsFit, lengthsFit, entryFits, entri
 use Rattle.layout.specs.Answers.{nameNumber, namePart}
 use Rattle.card.specs.declared.Card.{Card}
 use Rattle.card.specs.Counts.{CountsOf, countsWithin}
-use Rattle.card.proofs.Laws.{first, second, within-most, below-all}
+use Rattle.card.proofs.Laws.{both, limits, below-all}
 
 -- The mark, by what was compared.
 pub no-header : (card : List ℕ) → length card < 12 → false ≡ markFits card
@@ -48,7 +48,8 @@ module _ (nonterminals words indices productions : ℕ) where
 
 pub length-fits : (card : List ℕ) → lengthsFit card ≡ true → length card ≡ cardLength card
 length-fits card h =
-    eqb-true (length card) (cardLength card) (second (eqb (wordAt card 10) (productionTable card)) (second (eqb (wordAt card 8) wordTable) h))
+    eqb-true (length card) (cardLength card)
+    (both (eqb (wordAt card 10) (productionTable card)) _ (both (eqb (wordAt card 8) wordTable) _ h .1) .1)
 
 -- The cascade: a number is given where its test is the first that does not hold.
 pub number-11 : (card : List ℕ) → markFits card ≡ false → 11 ≡ cardNumber card
@@ -111,11 +112,12 @@ pub record Known (card : List ℕ) (word : ℕ) : Type 0 where
 named : (card : List ℕ) (word : ℕ) → Accepted card → word < wordCount card → Known card word
 named card word h known =
     let entry = below-all (wordCount card) (entryFits card) (h .fit) word known in
+    let words = both (within 1 16 (nonterminalCount card)) _ (h .counted) .1 in
     record {
       room = length-fits card (h .measured);
-      few = within-most 1 32 (wordCount card) (first _ (second (within 1 16 (nonterminalCount card)) (h .counted)));
+      few = limits 1 32 (wordCount card) (both (within 1 32 (wordCount card)) _ words .0) .1;
       known = known;
-      short = within-most 1 11 (spellingLength card word) (first _ entry);
+      short = limits 1 11 (spellingLength card word) (both (within 1 11 (spellingLength card word)) _ entry .0) .1;
     }
 
 pub known-word : (card : List ℕ) (word : ℕ) → nameNumber card word ≡ 0 → Known card word

@@ -4,7 +4,7 @@ use Prim.Native.Nat.{ℕ, zero, suc, _+_, _-_, _<_, _≤_}
 use native.Mathlib.Omega.{arith}
 use native.Mathlib.Decide.{ℕ-discrete}
 use mathlib.Core.Path.{_≡_, refl, sym, _∙_, ap, ap₂}
-use mathlib.Core.Bool.{Bool, true, false, not, _&&_, and-assoc, false≢true}
+use mathlib.Core.Bool.{Bool, true, false, not, _&&_, and-assoc, and-eq-true-iff, false≢true}
 use mathlib.Core.List.{List, [], _∷_, _++_}
 use borrow.Author.Tests.{not-true, not-false, leb-true, eqb-true, eq-eqb, ne-eqb}
 use lib.Dec.{eqb, leb}
@@ -26,14 +26,12 @@ no-later : (t : Bool) {b : Bool} → false ≡ b → false ≡ (t && b)
 no-later true h = h
 no-later false h = refl
 
--- The parts of a chain of tests that holds.
-pub first : {a : Bool} (b : Bool) → (a && b) ≡ true → a ≡ true
-first {a = true} b h = refl
-first {a = false} b h = absurd (false≢true h)
+-- The two parts of a test that holds; and so the limits of a number.
+pub both : (a b : Bool) → (a && b) ≡ true → (a ≡ true) × (b ≡ true)
+both a b h = and-eq-true-iff a b .0 h
 
-pub second : (a : Bool) {b : Bool} → (a && b) ≡ true → b ≡ true
-second true h = h
-second false h = absurd (false≢true h)
+pub limits : (low high x : ℕ) → within low high x ≡ true → (low ≤ x) × (x ≤ high)
+limits low high x h = let (l, u) = both (leb low x) (leb x high) h in (leb-true low x l, leb-true x high u)
 
 -- Of every byte.
 pub all-bytes : (test : ℕ → Bool) (l : List ℕ) → ((k : ℕ) → k < length l → test (getD l k 0) ≡ true) → true ≡ allBytes test l
@@ -72,7 +70,7 @@ pub same-equal : (a b : List ℕ) → sameBytes a b ≡ true → a ≡ b
 same-equal [] [] h = refl
 same-equal [] (y ∷ b) h = absurd (false≢true h)
 same-equal (x ∷ a) [] h = absurd (false≢true h)
-same-equal (x ∷ a) (y ∷ b) h = ap₂ _∷_ (eqb-true x y (first (sameBytes a b) h)) (same-equal a b (second (eqb x y) h))
+same-equal (x ∷ a) (y ∷ b) h = let (e, f) = both (eqb x y) (sameBytes a b) h in ap₂ _∷_ (eqb-true x y e) (same-equal a b f)
 
 pub same-append : (a b a′ b′ : List ℕ) → length a ≡ length b → sameBytes (a ++ a′) (b ++ b′) ≡ (sameBytes a b && sameBytes a′ b′)
 same-append [] [] a′ b′ e = refl
@@ -141,7 +139,3 @@ module _ (card : List ℕ) (v at n : ℕ) (place : at ≡ entryAt v) (length-byt
   pub entry-padding : within 1 11 n ≡ true → allBytes isLetter (take (at + 1 + n - (at + 1)) (drop (at + 1) card)) ≡ true
       → allBytes (eqb 0) (take (at + 12 - (at + 1 + n)) (drop (at + 1 + n) card)) ≡ entryFits card v
   entry-padding size letters = rw (size, letters) at (entry-parts card v at n place length-byte)
-
--- What a test of a number's limits says.
-pub within-most : (low high x : ℕ) → within low high x ≡ true → x ≤ high
-within-most low high x h = leb-true x high (second (leb low x) h)

@@ -4,22 +4,22 @@ use Prim.Native.Nat.{ℕ, zero, suc, _+_, _≤_, _<_}
 use native.Mathlib.Omega.{arith}
 use native.Mathlib.Decide.{decLt}
 use mathlib.Core.Path.{_≡_, refl, sym, _∙_, ap, subst}
-use mathlib.Core.Bool.{Bool, true, false, _&&_, false≢true}
+use mathlib.Core.Bool.{Bool, true}
 use mathlib.Core.List.{List, [], _∷_, map}
-use mathlib.Core.Option.{Option, none, some}
+use mathlib.Core.Option.{none, some}
 use lib.Dec.{eqb, leb, ltb}
-use lib.ListN.{length, take, getElem?}
+use lib.ListN.{getElem?}
 use borrow.Author.Tests.{leb-true, ltb-true}
 use Rattle.grammar.specs.Lists.{Stands}
-use Rattle.grammar.specs.Rewriting.{Rule, Lexical, Spine, Action, Take, Keep, Give}
+use Rattle.grammar.specs.Rewriting.{Rule, Lexical, Spine}
 use Rattle.grammar.proofs.StandsLaws.{stands-getElem, none-some, some-same}
-use Rattle.layout.specs.Bytes.{byteAt, counted, allBelow}
-use Rattle.layout.specs.Card.{nonterminalCount, wordCount, indexCount, productionCount, within, productionAt, production, grammarOf, ruleOf, wordProductionFits, pairFits, kindFits, productionFits, cardNumber}
-use Rattle.card.proofs.Laws.{below-all}
-use Rattle.card.proofs.Accepted.{Accepted, accepted}
+use Rattle.layout.specs.Bytes.{byteAt, counted}
+use Rattle.layout.specs.Card.{nonterminalCount, wordCount, indexCount, productionCount, within, productionAt, production, grammarOf, ruleOf, pairFits, kindFits, productionFits, cardNumber}
+use Rattle.card.proofs.Laws.{both, limits, below-all}
+use Rattle.card.proofs.Accepted.{accepted}
 use Rattle.chart_model.proofs.Exact.{leftOf}
-use Rattle.steps.specs.Fits.{ActionFits, SymbolsFit, RuleFits}
-use Rattle.chart.specs.Tables.{RulesFit, rulesFrom, grammarIn}
+use Rattle.steps.specs.Fits.{SymbolsFit, RuleFits}
+use Rattle.chart.specs.Tables.{RulesFit, rulesFrom}
 use Rattle.chart.specs.Built.{DecodedAll}
 use Rattle.records.proofs.RoomLaws.{counted-at}
 use Rattle.chart.proofs.CellLaws.{getElem-take}
@@ -28,13 +28,6 @@ counted-past : {A : Type 0} (f : ℕ → A) (k n p : ℕ) → n ≤ p → getEle
 counted-past f k zero p h = refl
 counted-past f k (suc n) zero h = absurd (omega arith)
 counted-past f k (suc n) (suc p) h = counted-past f (suc k) n p (omega arith)
-
-both : (a b : Bool) → (a && b) ≡ true → (a ≡ true) × (b ≡ true)
-both true b e = (refl, e)
-both false b e = absurd (false≢true e)
-
-limits : (low high x : ℕ) → within low high x ≡ true → (low ≤ x) × (x ≤ high)
-limits low high x e = let p = both (leb low x) (leb x high) e in (leb-true low x (p .0), leb-true x high (p .1))
 
 pub record CountsFit (card : List ℕ) : Type 0 where
   pub symbols : (1 ≤ nonterminalCount card) × (nonterminalCount card ≤ 16)

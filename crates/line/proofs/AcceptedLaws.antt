@@ -17,7 +17,8 @@ use Rattle.layout.specs.Answers.{inputNumber, wordsIn}
 use Rattle.layout.proofs.Reading.{count-numbers}
 use Rattle.line.specs.declared.Accepted.{Accepted}
 use Rattle.line.specs.Accepted.{acceptedWords, Accepts}
-use Rattle.line.proofs.CardLaws.{both, word-table}
+use Rattle.card.proofs.Laws.{both}
+use Rattle.line.proofs.CardLaws.{word-table}
 use Rattle.line.proofs.LookupLaws.{number-below}
 use Rattle.line.proofs.NumberLaws.{numbers}
 use Rattle.line.proofs.RefusalLaws.{where-zero}

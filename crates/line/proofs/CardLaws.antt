@@ -1,25 +1,15 @@
 -- What an accepted card tells of its word table: the tests behind refusals 12 to 14 hold, so the table lies within the card and each
 -- entry has 1 to 11 letters, and then zeros.
 use Prim.Native.Nat.{ℕ, _≤_, _<_}
-use mathlib.Core.Path.{_≡_, refl}
-use mathlib.Core.Bool.{Bool, true, false, _&&_, false≢true}
+use mathlib.Core.Path.{_≡_}
+use mathlib.Core.Bool.{true}
 use mathlib.Core.List.{List}
-use lib.Dec.{eqb, leb}
+use lib.Dec.{eqb}
 use lib.ListN.{length}
-use borrow.Author.Tests.{leb-true}
 use Rattle.layout.specs.Bytes.{isLetter, allBytes}
 use Rattle.layout.specs.Card.{nonterminalCount, wordCount, cardLength, spellingLength, spelling, padding, within, entryFits, cardNumber}
-use Rattle.card.proofs.Laws.{below-all}
+use Rattle.card.proofs.Laws.{both, limits, below-all}
 use Rattle.card.proofs.Accepted.{Accepted, accepted, length-fits}
-
-pub both : (a b : Bool) → (a && b) ≡ true → (a ≡ true) × (b ≡ true)
-both true b e = (refl, e)
-both false b e = absurd (false≢true e)
-
-limits : (low high x : ℕ) → within low high x ≡ true → (low ≤ x) × (x ≤ high)
-limits low high x e =
-    let parts = both (leb low x) (leb x high) e in
-    (leb-true low x (parts .0), leb-true x high (parts .1))
 
 -- One entry.
 pub record Entry (card : List ℕ) (v : ℕ) : Type 0 where

@@ -13,10 +13,10 @@ use borrow.Author.Tests.{leb-true, eqb-true, le-leb}
 use Rattle.layout.specs.Bytes.{sameBytes, allBytes}
 use Rattle.layout.specs.Card.{wordCount, entryAt, spellingLength, spelling, padding, cardNumber}
 use Rattle.card.specs.Numbers.{numberOf}
-use Rattle.card.proofs.Laws.{same-self, same-equal, same-append}
+use Rattle.card.proofs.Laws.{both, same-self, same-equal, same-append}
 use Rattle.card.proofs.NumberLaws.{AreBytes, same-number, bytes-take}
 use Rattle.line.specs.Packed.{keyOf}
-use Rattle.line.proofs.CardLaws.{both, Entry, WordTable, word-table}
+use Rattle.line.proofs.CardLaws.{Entry, WordTable, word-table}
 use Rattle.line.proofs.LetterLaws.{letters-bytes}
 
 -- Zeros after some bytes.

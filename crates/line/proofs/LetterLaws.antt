@@ -12,7 +12,7 @@ use Rattle.layout.specs.Bytes.{byteAt, isLetter, allBytes}
 use Rattle.layout.specs.Line.{space, isLineByte}
 use Rattle.card.proofs.NumberLaws.{AreBytes}
 use Rattle.line.specs.Words.{part, Letters, PastLetters}
-use Rattle.line.proofs.CardLaws.{both}
+use Rattle.card.proofs.Laws.{both}
 
 -- The limits of letters and digits together.
 letter-limits : (b : ℕ) → isLetter b ≡ true → (0x30 ≤ b) × (b ≤ 0x7A)

@@ -8,7 +8,7 @@ use borrow.Author.Needs.{needs}
 use denote.Ref.{now}
 use Rattle.layout.specs.Bytes.{byteAt}
 use Rattle.layout.specs.Card.{within}
-use Rattle.card.proofs.Laws.{refused, passed, entry-size, entry-spelling, entry-padding, within-most}
+use Rattle.card.proofs.Laws.{refused, passed, entry-size, entry-spelling, entry-padding, limits}
 use Rattle.card.proofs.entries.entry_fits.Statement.{statement}
 use Rattle.card.proofs.entries.entry_fits.Tie as tie
 
@@ -21,7 +21,7 @@ size : (c : tie.Else1) → within 1 11 (c .before .before .wide .result) ≡ tru
 size c = passed (c .before .within .ensures) (c .if1 .left)
 
 most : (c : tie.Else1) → c .before .before .wide .result ≤ 11
-most c = within-most 1 11 (c .before .before .wide .result) (size c)
+most c = limits 1 11 (c .before .before .wide .result) (size c) .1
 
 entry-at-requires : tie.Need-entry-at-requires
 entry-at-requires c κs = search needs
