@@ -1,12 +1,11 @@
 -- `give_one` adds the records of a give from one dependent: none where its foot has another index, and else those of the continuations, whose
 -- positions the table has as one stretch. The number of the foot tells where, and nothing is added where that cell is covered.
-use Prim.Native.Nat.{_+_, _*_, _/_, _≤_}
+use Prim.Native.Nat.{_*_, _/_, _<_}
 use native.Mathlib.Omega.{arith}
 use mathlib.Core.Path.{_≡_, refl, sym, _∙_}
-use lib.ListN.{length}
 use Rattle.records.specs.declared.index.Range.{Range}
 use Rattle.records.specs.Room.{chartIn, footFields}
-use Rattle.records.specs.Index.{cellAt, rangeIn, SpanFits}
+use Rattle.records.specs.Index.{spans, cellAt, rangeIn, SpanFits}
 use Rattle.records.specs.Cover.{Covering, Stretch}
 use Rattle.records.proofs.TableLaws.{cell-below}
 use Rattle.steps.proofs.StepCandidates.{to-below, range-stretch, given-span, given-at, given-none, given-each}
@@ -33,12 +32,12 @@ abbrev stretch : {R : Range} (c : tie.After-number-at) → let a = c .before .be
 stretch c r =
     let s = c .before .before .before .before .before .before .before .before in range-stretch (s .args .chart .now) (s .args .z .base) (s .pre .4) (span c) refl refl refl (place c) r
 
-inside : (c : tie.After-number-at) → 3 * (c .number-at .result / 8) + 3 ≤ length (c .before .before .before .before .before .before .before .before .args .index .now)
+inside : (c : tie.After-number-at) → let a = c .before .before .before .before .before .before .before .before .args in c .number-at .result / 8 < spans (a .z .words) * a .z .symbols
 inside c =
     let a = c .before .before .before .before .before .before .before .before .args in
     let f = footFields (a .chart .now) (a .y) in
     let s = span c in
-    omega (arith, place c, cell-below (a .z .words) (a .z .symbols) (f .symbol) (f .from) (f .to) (s .0) (s .1) (s .2), c .before .before .before .before .before .before .before .before .pre .4 .long)
+    omega (arith, place c, cell-below (a .z .words) (a .z .symbols) (f .symbol) (f .from) (f .to) (s .0) (s .1) (s .2))
 
 -- The table of covers once the cell was looked for.
 right : (c : tie.After-passes) → let a = c .before .before .before .before .before .before .before .before .before .before .before .args in
@@ -90,7 +89,7 @@ returns-2 c =
     (passed-over (q .0) (q .2) (stretch n refl) (q .5) (q .6) _ (λ x. refl) (c .before .before .before .before .before .own-at .ensures .0) (sym (e .0) ∙ c .if2 .taken) (e .1))
 
 range-of-requires : tie.Need-range-of-requires
-range-of-requires c κs = inside (c .before .before .before .before .before .before)
+range-of-requires c κs = let n = c .before .before .before .before .before .before in omega (arith, inside n, n .before .before .before .before .before .before .before .before .pre .4 .long)
 
 cast-continue-all : tie.Need-cast-continue-all
 cast-continue-all c = search needs
@@ -101,7 +100,7 @@ continue-all-requires c κs =
     let q = s .pre in
     let n = c .before .before .before .before .before .before .before .before .before .before in
     let r = c .before .before .before .range-of .ensures in
-    (q .0, to-below (s .args .chart .now) (s .args .z .base) (q .4) (n .number-at .result / 8) r, q .2, stretch n r, right (c .before .before .before .before .before .before .before), q .6)
+    (q .0, to-below (s .args .chart .now) (s .args .z .base) (q .4) _ r, q .2, stretch n r, right (c .before .before .before .before .before .before .before), q .6)
 
 same-length-3 : tie.Need-same-length-3
 same-length-3 c = search needs
