@@ -19,7 +19,7 @@ same-start : (c : tie.Else2) → c .before .before .before .before .before .befo
 same-start c = sym (c .before .wide .ensures .0) ∙ (c .if2 .left ∙ c .before .before .first-goal .ensures .start)
 
 same-end : (c : tie.Else3) → c .before .before .before .before .before .before .before .before .before .before .before .before .before .args .step .end ≡ c .before .before .before .before .before .first-goal .result .end
-same-end c = sym (c .before .before .wide2 .ensures .0) ∙ c .if3 .left
+same-end c = omega (arith, c .if3 .left, c .before .before .wide2 .ensures .0)
 
 there : (c : tie.Else4) → c .before .before .before .before .before .before .before .before .before .before .before .before .before .before .before .before .before .args .step .number < productionCount (c .before .before .before .before .before .before .before .before .before .before .before .before .before .before .before .before .before .args .card .now)
 there c = omega (arith, c .if4 .left, c .before .before .wide3 .ensures .0, c .before .wide4 .ensures .0)
@@ -60,7 +60,7 @@ returns-3 c =
     let a = c .before .before .before .before .before .before .before .before .before .before .before .before .before .args in
     let g = c .before .before .before .before .before .first-goal in
     advanced-end (a .card .now) (a .words .now) (a .step) (a .names .now) (a .ends .now) (a .bases .now) (a .stack .now) (a .stand)
-    (c .before .before .before .before .before .before .before .before .before .before .if1 .left) (g .result) (g .ensures) (same-start (c .before .before .before)) (λ e. c .if3 .taken (c .before .before .wide2 .ensures .0 ∙ e))
+    (c .before .before .before .before .before .before .before .before .before .before .if1 .left) (g .result) (g .ensures) (same-start (c .before .before .before)) (λ e. omega (arith, c .if3 .taken, c .before .before .wide2 .ensures .0))
 
 shared-slice-read-wide : tie.Need-shared-slice-read-wide
 shared-slice-read-wide c =
