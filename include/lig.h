@@ -252,17 +252,20 @@ uint64_t lig_name(const uint8_t *card, size_t card_length, size_t word);
  *
  *     line of        1 to 6 words   7 to 12 words   13 to 24 words
  *     lig_card_check      88              88              88
- *     lig_read        50,680          50,680          52,432
+ *     lig_read        15,160          15,184          63,640
+ *     lig_read/few    15,160          15,184          36,648
  *     lig_check          968             968             968
  *     lig_pairs        1,032           1,032           1,032
  *     lig_name           104             104             104
  *
- * lig_read takes 48,576 of them at once, for every line, also for one that it refuses. The figures
- * below have at least 128 bytes to spare, as much as a function may use below the stack pointer.
- * Interrupts that run on the same stack come on top.
+ * lig_read/few is lig_read with a card of at most 6 nonterminals. lig_read takes 13,056 of them at
+ * once, for every line, also for one that it refuses. The figures below have at least 128 bytes to
+ * spare, as much as a function may use below the stack pointer. Interrupts that run on the same
+ * stack come on top.
  */
 #define LIG_STACK_CARD_CHECK 256
-#define LIG_STACK_READ 52736
+#define LIG_STACK_READ 63872
+#define LIG_STACK_READ_FEW 36864 /* with a card of at most 6 nonterminals */
 #define LIG_STACK_CHECK 1280
 #define LIG_STACK_PAIRS 1280
 #define LIG_STACK_NAME 512
