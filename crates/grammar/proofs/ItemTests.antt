@@ -32,7 +32,8 @@ bare-true : (φ : Foot) → isBare φ ≡ true → φ ≡ bare
 bare-true bare e = refl
 bare-true (foot γ B p q) e = absurd (false≢true e)
 
-foot-true : (φ ψ : Foot) → sameFoot φ ψ ≡ true → φ ≡ ψ
+-- The test on feet is equality.
+pub foot-true : (φ ψ : Foot) → sameFoot φ ψ ≡ true → φ ≡ ψ
 foot-true bare bare e = refl
 foot-true bare (foot γ B p q) e = absurd (false≢true e)
 foot-true (foot γ B p q) bare e = absurd (false≢true e)
@@ -42,7 +43,7 @@ foot-true (foot γ B p q) (foot γ′ B′ p′ q′) e =
     let (e₃, e₄) = and-eq-true-iff (eqb p p′) _ .0 f₂ in
     cc (eqb-true γ γ′ e₁, eqb-true B B′ e₂, eqb-true p p′ e₃, eqb-true q q′ e₄)
 
-foot-self : (φ : Foot) → sameFoot φ φ ≡ true
+pub foot-self : (φ : Foot) → sameFoot φ φ ≡ true
 foot-self bare = refl
 foot-self (foot γ B p q) = simp eqb-self
 

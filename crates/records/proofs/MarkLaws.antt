@@ -3,50 +3,28 @@
 use Prim.Native.Nat.{ℕ, _/_, _%_, _^_, _<_}
 use native.Mathlib.Omega.{arith}
 use native.Mathlib.Decide.{ℕ-discrete}
-use mathlib.Core.Path.{_≡_, refl, sym, _∙_, ap}
-use mathlib.Core.Bool.{Bool, true, false, not, _||_}
-use mathlib.Core.List.{List, [], _∷_, List·Memᴰ·eq-of-singleton}
+use mathlib.Core.Path.{_≡_, sym, _∙_, ap}
+use mathlib.Core.Bool.{Bool, not, _||_}
+use mathlib.Core.List.{List}
 use lib.Dec.{eqb}
 use lib.ListN.{length, getD, set, length-set}
 use lib.Seq.{getD-set-same, getD-set-other}
 use lib.Bits.{bitAnd, bitOr}
 use borrow.Author.Tests.{eq-eqb, ne-eqb}
-use Rattle.grammar.specs.Items.{Foot, bare, foot}
-use Rattle.grammar.specs.ItemList.{item, sameFoot, among}
-use Rattle.grammar.proofs.ListLaws.{eqb-self}
-use Rattle.grammar.proofs.ItemTests.{among-true}
+use Rattle.grammar.specs.Items.{Foot}
+use Rattle.grammar.specs.ItemList.{sameFoot}
+use Rattle.grammar.proofs.ItemTests.{foot-true, foot-self}
+use Rattle.chart_model.proofs.FillModel.{not-so}
 use Rattle.records.specs.Bits.{holdsBit}
 use Rattle.records.specs.Room.{FootFits, footNumber, markAt, MarkAdded}
 use Rattle.records.proofs.BitLaws.{test-bit, holdsBit-more}
 use Rattle.records.proofs.TableLaws.{number-same}
 
--- The test on feet is equality.
-same-self : (φ : Foot) → sameFoot φ φ ≡ true
-same-self bare = refl
-same-self (foot γ B p q) = simp eqb-self
-
-pub same-true : {φ ψ : Foot} → φ ≡ ψ → sameFoot φ ψ ≡ true
-same-true {φ} {ψ} e = ap (sameFoot φ) (sym e) ∙ same-self φ
-
-pub true-same : (φ ψ : Foot) → sameFoot φ ψ ≡ true → φ ≡ ψ
-true-same φ ψ e =
-    let x = item 0 0 0 φ in
-    let y = item 0 0 0 ψ in
-    let q : x ≡ y = List·Memᴰ·eq-of-singleton (among-true x (y ∷ []) (rw (e, among))) in
-    cc
-
-pub same-false : (φ ψ : Foot) → (φ ≡ ψ → ⊥) → sameFoot φ ψ ≡ false
-same-false φ ψ h = go (sameFoot φ ψ) refl
-  where
-    go : (b : Bool) → sameFoot φ ψ ≡ b → sameFoot φ ψ ≡ false
-    go true e = absurd (h (true-same φ ψ e))
-    go false e = e
-
--- So it may be made on their numbers.
+-- The test on feet is equality, so it may be made on their numbers.
 pub same-number : (n N : ℕ) (φ ψ : Foot) → FootFits n N φ → FootFits n N ψ → eqb (footNumber n N φ) (footNumber n N ψ) ≡ sameFoot φ ψ
 same-number n N φ ψ h k = elim (ℕ-discrete (footNumber n N φ) (footNumber n N ψ)) [
-  | yes e ↦ eq-eqb _ _ e ∙ sym (same-true (number-same n N φ ψ h k e))
-  | no d ↦ ne-eqb _ _ d ∙ sym (same-false φ ψ (λ s. d (ap (footNumber n N) s)))
+  | yes e ↦ eq-eqb _ _ e ∙ sym (ap (sameFoot φ) (sym (number-same n N φ ψ h k e)) ∙ foot-self φ)
+  | no d ↦ ne-eqb _ _ d ∙ sym (not-so (sameFoot φ ψ) (λ t. d (ap (footNumber n N) (foot-true φ ψ t))))
 ]
 
 -- Looking at a mark, and setting it.
