@@ -25,8 +25,8 @@ use Rattle.records.specs.Index.{cellAt, rangeIn, bareIn, SpanFits, Indexed}
 use Rattle.records.specs.Cover.{Stretch}
 use Rattle.records.proofs.RoomLaws.{chart-length, foot-at, number-there}
 use Rattle.records.proofs.TableLaws.{number-cell}
-use Rattle.steps.specs.declared.step.Parts.{Parts}
-use Rattle.steps.specs.declared.step.Element.{Element}
+use Rattle.steps.specs.declared.parts.Parts.{Parts}
+use Rattle.steps.specs.declared.parts.Element.{Element}
 use Rattle.steps.specs.Fits.{ActionFits, RuleFits}
 use Rattle.steps.specs.Parts.{isPair, pairFrom, elementAt}
 use Rattle.steps.proofs.StepLaws.{concatMap-counted, added-none, added-as, foot-fits}

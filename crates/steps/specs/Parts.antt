@@ -6,8 +6,8 @@ use Rattle.grammar.specs.Lists.{only}
 use Rattle.grammar.specs.Rewriting.{Rule, Lexical, Spine}
 use Rattle.card.specs.Productions.{actionFrom}
 use Rattle.records.specs.declared.record.Cell.{Cell}
-use Rattle.steps.specs.declared.step.Parts.{Parts}
-use Rattle.steps.specs.declared.step.Element.{Element}
+use Rattle.steps.specs.declared.parts.Parts.{Parts}
+use Rattle.steps.specs.declared.parts.Element.{Element}
 
 -- Has the rule a side and a dependent?
 abbrev pub isPair : Rule → Bool

@@ -7,8 +7,8 @@ use Rattle.chart_model.specs.Build.{continued}
 use Rattle.records.specs.Room.{chartIn, footFrom}
 use Rattle.steps.proofs.StepLaws.{Looped, loop-start, loop-works, loop-below, loop-end, loop-turn, loop-over, loop-foot}
 use Rattle.steps.proofs.StepLaws.{record-there, read-again}
-use Rattle.steps.proofs.step.continue_each.Statement.{statement}
-use Rattle.steps.proofs.step.continue_each.Tie as tie
+use Rattle.steps.proofs.give.continue_each.Statement.{statement}
+use Rattle.steps.proofs.give.continue_each.Tie as tie
 
 abbrev Inv-loop : tie.InvT-loop
 Inv-loop chart₀ marks₀ z c s y from to count k₀ now₀ chart marks k now =

@@ -1,6 +1,6 @@
 -- `element_at` meets its contract: by the test, the definition computes.
-use Rattle.steps.proofs.step.element_at.Statement.{statement}
-use Rattle.steps.proofs.step.element_at.Tie as tie
+use Rattle.steps.proofs.parts.element_at.Statement.{statement}
+use Rattle.steps.proofs.parts.element_at.Tie as tie
 
 returns : tie.Need-returns
 returns c = rw (c .if1 .taken)

@@ -11,8 +11,8 @@ use Rattle.records.proofs.TableLaws.{cell-below}
 use Rattle.steps.proofs.StepCandidates.{to-below, range-stretch, given-span, given-at, given-none, given-each}
 use Rattle.steps.proofs.StepCover.{advanced-kept, advanced-as, passes-fits, looked-at, passed-over}
 use borrow.Author.Needs.{needs}
-use Rattle.steps.proofs.step.give_one.Statement.{statement}
-use Rattle.steps.proofs.step.give_one.Tie as tie
+use Rattle.steps.proofs.give.give_one.Statement.{statement}
+use Rattle.steps.proofs.give.give_one.Tie as tie
 
 -- The foot's index is the one to give, so its parts fit, and its number tells the place of its cell.
 span : (c : tie.After-number-at) → let a = c .before .before .before .before .before .before .before .before .args in

@@ -7,8 +7,8 @@ use Rattle.chart_model.specs.Build.{keptFrom}
 use Rattle.records.specs.Room.{chartIn, footFrom}
 use Rattle.steps.proofs.StepLaws.{Looped, loop-start, loop-works, loop-below, loop-end, loop-turn, loop-over, loop-foot}
 use Rattle.steps.proofs.StepLaws.{record-there, read-again}
-use Rattle.steps.proofs.step.keep_each.Statement.{statement}
-use Rattle.steps.proofs.step.keep_each.Tie as tie
+use Rattle.steps.proofs.keep.keep_each.Statement.{statement}
+use Rattle.steps.proofs.keep.keep_each.Tie as tie
 
 abbrev Inv-loop : tie.InvT-loop
 Inv-loop chart₀ marks₀ z c s from to count y₀ now₀ chart marks y now =

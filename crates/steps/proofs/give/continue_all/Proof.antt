@@ -2,8 +2,8 @@
 use mathlib.Core.Path.{refl}
 use Rattle.steps.proofs.StepCover.{advanced-kept, note-fits, advanced-none, taken-over}
 use borrow.Author.Needs.{needs}
-use Rattle.steps.proofs.step.continue_all.Statement.{statement}
-use Rattle.steps.proofs.step.continue_all.Tie as tie
+use Rattle.steps.proofs.give.continue_all.Statement.{statement}
+use Rattle.steps.proofs.give.continue_all.Tie as tie
 
 returns : tie.Need-returns
 returns c =

@@ -5,8 +5,8 @@ use Rattle.records.specs.Room.{chartIn}
 use Rattle.records.specs.Cover.{Covering}
 use Rattle.steps.proofs.StepCover.{advanced-kept, note-fits, passes-fits, looked-at, advanced-none, passed-over, taken-over}
 use borrow.Author.Needs.{needs}
-use Rattle.steps.proofs.step.keep_all.Statement.{statement}
-use Rattle.steps.proofs.step.keep_all.Tie as tie
+use Rattle.steps.proofs.keep.keep_all.Statement.{statement}
+use Rattle.steps.proofs.keep.keep_all.Tie as tie
 
 -- The table once the cell was looked for.
 right : (c : tie.After-passes) → let a = c .before .before .before .before .before .before .before .args in

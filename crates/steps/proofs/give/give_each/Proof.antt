@@ -6,8 +6,8 @@ use mathlib.Core.Path.{_∙_}
 use Rattle.chart_model.specs.Build.{givenFrom}
 use Rattle.steps.proofs.StepLaws.{loop-works, loop-kept}
 use Rattle.steps.proofs.StepCover.{Advancing, advance-start, advance-asks, advance-turn, advance-over, advance-end}
-use Rattle.steps.proofs.step.give_each.Statement.{statement}
-use Rattle.steps.proofs.step.give_each.Tie as tie
+use Rattle.steps.proofs.give.give_each.Statement.{statement}
+use Rattle.steps.proofs.give.give_each.Tie as tie
 
 abbrev Inv-loop : tie.InvT-loop
 Inv-loop chart₀ marks₀ index covers₀ z c s g from to count y₀ now₀ chart marks covers y now =

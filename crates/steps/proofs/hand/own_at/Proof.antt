@@ -1,7 +1,7 @@
 -- `own_at` meets its contract: the number that `cell_at` gives, of parts that `wide` leaves as they are.
 use borrow.Author.Needs.{needs}
-use Rattle.steps.proofs.step.own_at.Statement.{statement}
-use Rattle.steps.proofs.step.own_at.Tie as tie
+use Rattle.steps.proofs.hand.own_at.Statement.{statement}
+use Rattle.steps.proofs.hand.own_at.Tie as tie
 
 wide-requires : tie.Need-wide-requires
 wide-requires c κs = search needs

@@ -2,8 +2,8 @@
 use mathlib.Core.Path.{refl}
 use mathlib.Core.Bool.{false≢true}
 use borrow.Author.Needs.{needs}
-use Rattle.steps.proofs.step.parts_of.Statement.{statement}
-use Rattle.steps.proofs.step.parts_of.Tie as tie
+use Rattle.steps.proofs.parts.parts_of.Statement.{statement}
+use Rattle.steps.proofs.parts.parts_of.Tie as tie
 
 enum-known-rule : tie.Need-enum-known-rule
 enum-known-rule c = search needs
