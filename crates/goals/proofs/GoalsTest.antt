@@ -12,7 +12,7 @@ use borrow.Author.Tests.{eqb-true, ltb-true, lt-ltb}
 use Rattle.grammar.specs.Lists.{Stands}
 use Rattle.grammar.specs.Rewriting.{Rule, Lexical, Spine, Action, Take, Keep, Give, Acts, takes, keeps, gives, Symbol, word, nonterminal, sides, Replaces, lexical, spine, OneSide, isWord, isFirst, isLast, OneSided}
 use Rattle.grammar.specs.Input.{Holds}
-use Rattle.grammar.specs.Plan.{PlanStep, planStep, numberOf, firstOf, othersOf, Yields, nothing, reads, replaces, LeftmostDerivation, passes}
+use Rattle.grammar.specs.Plan.{PlanStep, planStep, productionIn, firstOf, othersOf, Yields, nothing, reads, replaces, LeftmostDerivation, passes}
 use Rattle.grammar.proofs.ListLaws.{eqb-self}
 use Rattle.grammar.proofs.StandsLaws.{stands-getElem, getElem-stands}
 use Rattle.grammar.proofs.PlanTest.{passes-sound, passes-complete}

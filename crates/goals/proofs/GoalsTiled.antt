@@ -9,7 +9,7 @@ use mathlib.Core.Option.{Option, none, some}
 use lib.Dec.{eqb, ltb}
 use lib.ListN.{length, getElem?, length-append}
 use Rattle.grammar.specs.Rewriting.{Rule, Lexical, Spine, Action, Take, Keep, Give}
-use Rattle.grammar.specs.Plan.{PlanStep, planStep, numberOf}
+use Rattle.grammar.specs.Plan.{PlanStep, planStep, productionIn}
 use Rattle.goals.specs.Goals.{Goal, goal, Standing, stuck, standing, topIndex, actionFits, depthAfter, stackAfter, dependentSpan, fits, replaced, turnTo, turn, next, Tiled, reached, tiled}
 use Rattle.goals.specs.Shown.{indicesOf}
 use Rattle.goals.proofs.GoalsTest.{both, word-fits, pair-fits}
@@ -63,4 +63,4 @@ turn-tiled at (some R) (planStep p i′ k j′) n i (goal A s j ∷ rest) (tiled
 
 pub next-tiled : (g : List Rule) (at : ℕ → ℕ → Bool) (st : PlanStep) (n : ℕ) (S : Standing) → TiledAt n S → TiledAt n (next g at st S)
 next-tiled g at st n stuck t = tt
-next-tiled g at st n (standing i goals) t = turn-tiled at (getElem? g (numberOf st)) st n i goals t
+next-tiled g at st n (standing i goals) t = turn-tiled at (getElem? g (productionIn st)) st n i goals t

@@ -8,7 +8,7 @@ use mathlib.Core.Option.{Option, none, some}
 use lib.Dec.{eqb, ltb}
 use lib.ListN.{length, getElem?}
 use Rattle.grammar.specs.Rewriting.{Rule, Lexical, Spine, Action, Take, Keep, Give}
-use Rattle.grammar.specs.Plan.{PlanStep, planStep, numberOf}
+use Rattle.grammar.specs.Plan.{PlanStep, planStep, productionIn}
 
 pub data Goal : Type 0 where
   goal : (A : ℕ) (s : List ℕ) (j : ℕ) → Goal
@@ -85,7 +85,7 @@ allReached (standing i (x ∷ rest)) = false
 
 abbrev pub next : List Rule → (ℕ → ℕ → Bool) → PlanStep → Standing → Standing
 next g at st stuck = stuck
-next g at st (standing i goals) = turn at (getElem? g (numberOf st)) st i goals
+next g at st (standing i goals) = turn at (getElem? g (productionIn st)) st i goals
 
 abbrev pub goalsRun : List Rule → (ℕ → ℕ → Bool) → List PlanStep → Standing → Bool
 goalsRun g at [] S = allReached S

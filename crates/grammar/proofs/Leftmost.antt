@@ -5,7 +5,7 @@ use mathlib.Core.Path.{_≡_, refl, sym, ap, _∙_}
 use mathlib.Core.List.{List, [], _∷_, _++_, map, append-assoc, map-append, head-eq-of-cons-eq, tail-eq-of-cons-eq}
 use Rattle.grammar.specs.Input.{WordsAt, nowords, oneword}
 use Rattle.grammar.specs.Rewriting.{Rule, Symbol, word, Replaces, Step, here, later, Steps, done, next}
-use Rattle.grammar.specs.Plan.{PlanStep, planStep, numberOf, firstOf, othersOf, Yields, nothing, reads, replaces, LeftmostStep, first, pastWord, LeftmostSteps, finish, proceed}
+use Rattle.grammar.specs.Plan.{PlanStep, planStep, productionIn, firstOf, othersOf, Yields, nothing, reads, replaces, LeftmostStep, first, pastWord, LeftmostSteps, finish, proceed}
 use Rattle.grammar.proofs.RightSide.{no-word, replaces-unique}
 use Rattle.grammar.proofs.YieldsLaws.{yields-split, yields-parts}
 
@@ -20,7 +20,7 @@ pub record Same (j j′ : ℕ) (plan plan′ : List PlanStep) (u v : List ℕ) :
   pub after : u ≡ v
 
 numbers : (l₀ l₁ l₂ : List PlanStep) (u : List ℕ)
-    → map numberOf ((l₀ ++ l₁) ++ l₂) ++ u ≡ map numberOf l₀ ++ (map numberOf l₁ ++ (map numberOf l₂ ++ u))
+    → map productionIn ((l₀ ++ l₁) ++ l₂) ++ u ≡ map productionIn l₀ ++ (map productionIn l₁ ++ (map productionIn l₂ ++ u))
 numbers l₀ l₁ l₂ u = simp (map-append, append-assoc)
 
 module _ (g : List Rule) where
@@ -73,7 +73,7 @@ module _ (g : List Rule) where
     rewrites-replace r (u, b, x) = (u, b, proceed (first r) x)
 
     pub plan-rewrites : {f : List Symbol} {i j : ℕ} {plan : List PlanStep} → Yields g at f i j plan
-        → (words : List ℕ) × WordsAt at i words j × LeftmostSteps g f (map numberOf plan) (map word words)
+        → (words : List ℕ) × WordsAt at i words j × LeftmostSteps g f (map productionIn plan) (map word words)
     plan-rewrites nothing = ([], nowords, finish)
     plan-rewrites (reads a y) = rewrites-read a (plan-rewrites y)
     plan-rewrites (replaces {r = r} x y₀ y₁ y₂) =
@@ -82,14 +82,14 @@ module _ (g : List Rule) where
 
     -- One step back.
     abbrev Planned : List Symbol → ℕ → ℕ → List ℕ → Type 0
-    Planned f i j ps = (plan : List PlanStep) × Yields g at f i j plan × (map numberOf plan ≡ ps)
+    Planned f i j ps = (plan : List PlanStep) × Yields g at f i j plan × (map productionIn plan ≡ ps)
 
     words-plan : {i j : ℕ} {words : List ℕ} → WordsAt at i words j → Yields g at (map word words) i j []
     words-plan nowords = nothing
     words-plan (oneword a x) = reads a (words-plan x)
 
     step-back : {p i j : ℕ} {f f′ : List Symbol} {plan : List PlanStep} → LeftmostStep g p f f′ → Yields g at f′ i j plan
-        → Planned f i j (p ∷ map numberOf plan)
+        → Planned f i j (p ∷ map productionIn plan)
     step-back {p} {i} (first {r = r} x) y =
         let s = yields-split g at r y in
         let t = yields-parts g at r (s .leftYields) in (
@@ -106,12 +106,12 @@ module _ (g : List Rule) where
     plans (proceed s ss) e a = let (l, y, d) = plans ss e a in let (l′, y′, d′) = step-back s y in (l′, y′, cc)
 
     pub rewriting-plans : {f : List Symbol} {ps words : List ℕ} {i j : ℕ} → LeftmostSteps g f ps (map word words) → WordsAt at i words j
-        → (plan : List PlanStep) × Yields g at f i j plan × (map numberOf plan ≡ ps)
+        → (plan : List PlanStep) × Yields g at f i j plan × (map productionIn plan ≡ ps)
     rewriting-plans s a = plans s refl a
 
     -- Every start, split and end of a step is forced.
     pub forced : {f : List Symbol} {i j j′ : ℕ} {plan plan′ : List PlanStep} {u v : List ℕ} → Yields g at f i j plan
-        → Yields g at f i j′ plan′ → map numberOf plan ++ u ≡ map numberOf plan′ ++ v → Same j j′ plan plan′ u v
+        → Yields g at f i j′ plan′ → map productionIn plan ++ u ≡ map productionIn plan′ ++ v → Same j j′ plan plan′ u v
     forced nothing nothing e = record { place = refl; steps = refl; after = e }
     forced (reads a y) (reads b z) e = forced y z e
     forced (reads a y) (replaces x z₀ z₁ z₂) e = absurd (no-word g x)
@@ -127,5 +127,5 @@ module _ (g : List Rule) where
         record { place = s₂ .place; steps = cc; after = s₂ .after }
 
     pub stretches-forced : {f : List Symbol} {i j j′ : ℕ} {plan plan′ : List PlanStep} → Yields g at f i j plan
-        → Yields g at f i j′ plan′ → map numberOf plan ≡ map numberOf plan′ → (j ≡ j′) × (plan ≡ plan′)
+        → Yields g at f i j′ plan′ → map productionIn plan ≡ map productionIn plan′ → (j ≡ j′) × (plan ≡ plan′)
     stretches-forced y z e = let s = forced y z (ap (λ l. l ++ []) e) in (s .place, s .steps)

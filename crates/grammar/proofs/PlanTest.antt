@@ -10,7 +10,7 @@ use lib.ListN.{getElem?}
 use borrow.Author.Tests.{eqb-true}
 use Rattle.grammar.specs.Input.{Holds}
 use Rattle.grammar.specs.Rewriting.{Rule, Symbol, word, nonterminal, Replaces, start}
-use Rattle.grammar.specs.Plan.{PlanStep, planStep, numberOf, firstOf, othersOf, Yields, nothing, reads, replaces, LeftmostDerivation, rightSide, Pending, symbol, endsAt, Settled, stuck, finished, opened, settle, endsWith, expanded, State, failed, going, replacedBy, stepped, runs, passes}
+use Rattle.grammar.specs.Plan.{PlanStep, planStep, productionIn, firstOf, othersOf, Yields, nothing, reads, replaces, LeftmostDerivation, rightSide, Pending, symbol, endsAt, Settled, stuck, finished, opened, settle, endsWith, expanded, State, failed, going, replacedBy, stepped, runs, passes}
 use Rattle.grammar.proofs.ListLaws.{eqb-self}
 use Rattle.grammar.proofs.RightSide.{no-word, right-side}
 use Rattle.grammar.proofs.YieldsLaws.{yields-join}
@@ -108,7 +108,7 @@ module _ (g : List Rule) (at : ℕ → ℕ → Bool) (n : ℕ) where
 
   module _ (plan : List PlanStep) (sound : (i : ℕ) (E : List Pending) → runs g at n plan (going i E) ≡ true → Means E i plan) where
     opens : (st : PlanStep) (i A : ℕ) (s : List ℕ) (E : List Pending) (o : Option (List Symbol))
-        → rightSide (getElem? g (numberOf st)) A s ≡ o → runs g at n plan (replacedBy st i E o) ≡ true
+        → rightSide (getElem? g (productionIn st)) A s ≡ o → runs g at n plan (replacedBy st i E o) ≡ true
         → Means (symbol (nonterminal A s) ∷ E) i (st ∷ plan)
     opens st i A s E none e h = absurd (not-failed plan h)
     opens (planStep p i′ k j) i A s E (some r) e h =
@@ -118,7 +118,7 @@ module _ (g : List Rule) (at : ℕ → ℕ → Bool) (n : ℕ) where
     step-means : (st : PlanStep) (S : Settled) → runs g at n plan (stepped g st S) ≡ true → After S (st ∷ plan)
     step-means st stuck h = absurd (not-failed plan h)
     step-means st (finished i) h = absurd (not-failed plan h)
-    step-means st (opened i A s E) h = atOpen (opens st i A s E (rightSide (getElem? g (numberOf st)) A s) refl h)
+    step-means st (opened i A s E) h = atOpen (opens st i A s E (rightSide (getElem? g (productionIn st)) A s) refl h)
 
   runs-means : (plan : List PlanStep) (i : ℕ) (E : List Pending) → runs g at n plan (going i E) ≡ true → Means E i plan
   runs-means [] i E h = settled E i (ended (settle at E i) h)

@@ -5,4 +5,5 @@ pub mod Items
 pub mod ItemList
 pub mod Plan
 pub mod Pairs
+pub mod Matching
 pub mod Chart

@@ -6,25 +6,37 @@ use mathlib.Core.List.{List, [], _∷_, _++_}
 use mathlib.Core.Option.{Option, none, some}
 use lib.ListN.{length, getElem?}
 use Rattle.grammar.specs.Rewriting.{Rule, Lexical, Spine, Action, Take, Keep, Give}
-use Rattle.grammar.specs.Plan.{PlanStep, planStep}
+use Rattle.grammar.specs.Plan.{PlanStep, planStep, productionIn}
 
--- The first word of a give's side, and of its take's side.
+-- A stretch of the line: the words from place `from` up to place `to`.
+pub data Stretch : Type 0 where
+  stretch : (from to : ℕ) → Stretch
+
+-- The empty one, before a give has met its take.
+abbrev pub noStretch : Stretch
+noStretch = stretch 0 0
+
+-- The side of a step: what lies before the split if the side stands first, and what lies after it if the dependent does. (With no
+-- side, the step's own stretch stands for it.)
+abbrev pub sideOf : Rule → PlanStep → Stretch
+sideOf (Lexical A w) (planStep p i k j) = stretch i j
+sideOf (Spine A a (B ∷ before) D after) (planStep p i k j) = stretch i k
+sideOf (Spine A a [] D []) (planStep p i k j) = stretch i j
+sideOf (Spine A a [] D (C ∷ after)) (planStep p i k j) = stretch k j
+
+-- What a pair says of a side's stretch: its first word.
+abbrev pub placeIn : Stretch → ℕ
+placeIn (stretch from to) = from
+
+-- A give's side, and its take's side.
 pub data Pair : Type 0 where
-  pair : (given taken : ℕ) → Pair
-
--- Where the side of a step over i with split k starts: at i if it stands first, at k if the dependent does. (With no side, the
--- step's own stretch stands for it.)
-abbrev pub sideStart : Rule → ℕ → ℕ → ℕ
-sideStart (Lexical A w) i k = i
-sideStart (Spine A a (B ∷ before) D after) i k = i
-sideStart (Spine A a [] D []) i k = i
-sideStart (Spine A a [] D (C ∷ after)) i k = k
+  pair : (given taken : Stretch) → Pair
 
 -- The pair number m gets its take.
-abbrev pub settlePair : ℕ → ℕ → List Pair → List Pair
-settlePair m place [] = []
-settlePair zero place (pair given taken ∷ pairs) = pair given place ∷ pairs
-settlePair (suc m) place (x ∷ pairs) = x ∷ settlePair m place pairs
+abbrev pub takePair : ℕ → Stretch → List Pair → List Pair
+takePair m side [] = []
+takePair zero side (pair given taken ∷ pairs) = pair given side ∷ pairs
+takePair (suc m) side (x ∷ pairs) = x ∷ takePair m side pairs
 
 -- The stacks of the nonterminals to come, leftmost first, as numbers of pairs; and the pairs so far.
 pub record Replay : Type 0 where
@@ -38,27 +50,27 @@ emptyStacks (B ∷ Bs) = [] ∷ emptyStacks Bs
 abbrev pub spineStacks : List ℕ → List ℕ → List ℕ → List (List ℕ) → List (List ℕ)
 spineStacks before s after rest = emptyStacks before ++ (s ∷ (emptyStacks after ++ rest))
 
-abbrev pub replayAction : Action → ℕ → List ℕ → List ℕ → List ℕ → List (List ℕ) → List Pair → Replay
-replayAction (Take γ) place before after [] rest pairs = record { stacks = rest; pairs = pairs }
-replayAction (Take γ) place before after (m ∷ s) rest pairs =
-    record { stacks = spineStacks before s after rest; pairs = settlePair m place pairs }
-replayAction Keep place before after s rest pairs = record { stacks = spineStacks before s after rest; pairs = pairs }
-replayAction (Give γ) place before after s rest pairs =
-    record { stacks = spineStacks before (length pairs ∷ s) after rest; pairs = pairs ++ (pair place 0 ∷ []) }
+abbrev pub replayAction : Action → Stretch → List ℕ → List ℕ → List ℕ → List (List ℕ) → List Pair → Replay
+replayAction (Take γ) side before after [] rest pairs = record { stacks = rest; pairs = pairs }
+replayAction (Take γ) side before after (m ∷ s) rest pairs =
+    record { stacks = spineStacks before s after rest; pairs = takePair m side pairs }
+replayAction Keep side before after s rest pairs = record { stacks = spineStacks before s after rest; pairs = pairs }
+replayAction (Give γ) side before after s rest pairs =
+    record { stacks = spineStacks before (length pairs ∷ s) after rest; pairs = pairs ++ (pair side noStretch ∷ []) }
 
-abbrev pub replayRule : Rule → ℕ → ℕ → List ℕ → List (List ℕ) → List Pair → Replay
-replayRule (Lexical A w) i k s rest pairs = record { stacks = rest; pairs = pairs }
-replayRule (Spine A a before D after) i k s rest pairs =
-    replayAction a (sideStart (Spine A a before D after) i k) before after s rest pairs
+abbrev pub replayRule : Rule → PlanStep → List ℕ → List (List ℕ) → List Pair → Replay
+replayRule (Lexical A w) st s rest pairs = record { stacks = rest; pairs = pairs }
+replayRule (Spine A a before D after) st s rest pairs =
+    replayAction a (sideOf (Spine A a before D after) st) before after s rest pairs
 
-abbrev pub replayStep : Option Rule → ℕ → ℕ → List (List ℕ) → List Pair → Replay
-replayStep none i k stacks pairs = record { stacks = stacks; pairs = pairs }
-replayStep (some r) i k [] pairs = record { stacks = []; pairs = pairs }
-replayStep (some r) i k (s ∷ rest) pairs = replayRule r i k s rest pairs
+abbrev pub replayStep : Option Rule → PlanStep → List (List ℕ) → List Pair → Replay
+replayStep none st stacks pairs = record { stacks = stacks; pairs = pairs }
+replayStep (some r) st [] pairs = record { stacks = []; pairs = pairs }
+replayStep (some r) st (s ∷ rest) pairs = replayRule r st s rest pairs
 
 abbrev pub replay : List Rule → List PlanStep → Replay → List Pair
-replay g [] now = now .pairs
-replay g (planStep p i k j ∷ plan) now = replay g plan (replayStep (getElem? g p) i k (now .stacks) (now .pairs))
+replay g [] state = state .pairs
+replay g (st ∷ plan) state = replay g plan (replayStep (getElem? g (productionIn st)) st (state .stacks) (state .pairs))
 
 -- The pairs of a plan.
 abbrev pub pairsOf : List Rule → List PlanStep → List Pair

@@ -11,6 +11,10 @@ use Rattle.grammar.specs.Rewriting.{Rule, Lexical, Spine, Action, Take, 
 pub data PlanStep : Type 0 where
   planStep : (p i k j : ℕ) → PlanStep
 
+-- Its production.
+abbrev pub productionIn : PlanStep → ℕ
+productionIn (planStep p i k j) = p
+
 abbrev pub firstOf : List Symbol → List Symbol
 firstOf [] = []
 firstOf (X ∷ f) = X ∷ []
@@ -45,8 +49,6 @@ pub data LeftmostSteps (g : List Rule) : List Symbol → List ℕ → List Symbo
   proceed : {p : ℕ} {f f′ f″ : List Symbol} {ps : List ℕ} → LeftmostStep g p f f′ → LeftmostSteps g f′ ps f″
       → LeftmostSteps g f (p ∷ ps) f″
 
-abbrev pub numberOf : PlanStep → ℕ
-numberOf (planStep p i k j) = p
 
 -- The test. The dependent's stack, where the action fits the left side's stack; the right side, where the production fits.
 abbrev pub acted : Action → List ℕ → Option (List ℕ)
@@ -110,7 +112,7 @@ replacedBy (planStep p i′ k j) i rest (some r) = elim (eqb i′ i) [ true ↦ 
 abbrev pub stepped : List Rule → PlanStep → Settled → State
 stepped g st stuck = failed
 stepped g st (finished i) = failed
-stepped g st (opened i A s rest) = replacedBy st i rest (rightSide (getElem? g (numberOf st)) A s)
+stepped g st (opened i A s rest) = replacedBy st i rest (rightSide (getElem? g (productionIn st)) A s)
 
 abbrev pub runs : List Rule → (ℕ → ℕ → Bool) → ℕ → List PlanStep → State → Bool
 runs g at n [] failed = false

@@ -4,7 +4,7 @@ use mathlib.Core.List.{List, [], _∷_}
 use mathlib.Core.Option.{Option, none, some}
 use Rattle.grammar.specs.Lists.{concatMap}
 use Rattle.grammar.specs.Plan.{PlanStep, planStep}
-use Rattle.grammar.specs.Pairs.{Pair, pair}
+use Rattle.grammar.specs.Pairs.{Pair, pair, placeIn}
 
 abbrev pub stepBytes : PlanStep → List ℕ
 stepBytes (planStep p i k j) = p ∷ i ∷ k ∷ j ∷ []
@@ -32,7 +32,7 @@ abbrev pub planRoom : ℕ → ℕ
 planRoom n = 4 * planSteps n
 
 abbrev pub pairBytes : Pair → List ℕ
-pairBytes (pair given taken) = given ∷ taken ∷ []
+pairBytes (pair given taken) = placeIn given ∷ placeIn taken ∷ []
 
 abbrev pub pairsBytes : List Pair → List ℕ
 pairsBytes pairs = concatMap pairBytes pairs

@@ -11,7 +11,7 @@ use lib.ListN.{length, getElem?}
 use borrow.Author.Tests.{eqb-true}
 use Rattle.grammar.specs.Lists.{Stands}
 use Rattle.grammar.specs.Rewriting.{Rule, Lexical, Spine, Action, Take, Keep, Give, OneSide, isWord, isFirst, isLast, OneSided}
-use Rattle.grammar.specs.Plan.{PlanStep, planStep, numberOf}
+use Rattle.grammar.specs.Plan.{PlanStep, planStep, productionIn}
 use Rattle.grammar.specs.Pairs.{Pair, sideStart}
 use Rattle.grammar.proofs.StandsLaws.{getElem-stands}
 use Rattle.grammar.proofs.PairsLaws.{takesAction, takesRule, takesOf, matchedAction, matchedRule, matched, oneGive}
