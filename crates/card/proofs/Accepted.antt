@@ -1,152 +1,153 @@
--- What the numbers of a card and of a name say when they are 0: every test before holds, by going down the cascade of refusals.
--- So an accepted card has room for its tables, and a known word has a spelling of at most 11 bytes inside the card.
+-- Laws behind the card's calls, over plain bytes and numbers: what the header's tests say, which number a card gets by the first test that
+-- does not hold, and what a known word tells.
 use Prim.Native.Nat.{ℕ, _+_, _-_, _<_, _≤_}
 use native.Mathlib.Nat.{add-sub-cancel-left}
 use native.Mathlib.Omega.{arith}
 use mathlib.Core.Path.{_≡_, refl, sym, _∙_}
 use mathlib.Core.Bool.{Bool, true, false}
-use mathlib.Core.List.{List, []}
-use borrow.Author.Tests.{eqb-true, eqb-false, ltb-true, eq-eqb, ne-eqb, lt-ltb, le-ltb, lt-leb, le-leb}
-use lib.Dec.{eqb, ltb, lit<}
+use mathlib.Core.List.{List, [], _∷_}
+use borrow.Author.Tests.{leb-true, eq-eqb, ne-eqb, lt-ltb, le-ltb, lt-leb, le-leb}
+use lib.Dec.{eqb, leb, ltb}
 use lib.ListN.{length, take, drop}
-use Rattle.layout.specs.Bytes.{byteAt, wordAt, sameBytes, check}
-use Rattle.layout.specs.Card.{mark, nonterminalCount, wordCount, wordTable, productionTable, cardLength, entryAt, spellingLength, within}
-use Rattle.layout.specs.Card.{markFits, countsFit, lengthsFit, entryFits, entriesFit, entriesDiffer, productionsFit, cardNumber}
+use Rattle.layout.specs.Bytes.{byteAt, number16At, sameBytes}
+use Rattle.layout.specs.Card.{mark, leastHeader, wordCount, wordTable, productionTable, cardLength, entryAt, entryLength, spellingLength}
+use Rattle.layout.specs.Card.{maxNonterminals, maxWords, maxIndices, maxProductions, mostLetters, within}
+use Rattle.layout.specs.Card.{markFits, countsFit, lengthsFit, entryFits, entriesFit, entriesDiffer, productionsFit, cardRefusals, cardNumber}
+use Rattle.layout.specs.Refusals.{unless}
 use Rattle.layout.specs.Answers.{nameNumber, namePart}
+use Rattle.layout.proofs.TestLaws.{both, limits, below-all}
+use Rattle.layout.proofs.RefusalLaws.{accepts, holding, failing, answers-first}
+use Rattle.layout.proofs.Accepting.{accepted-card, accepted-counts, entry-inside, name-of-card, name-of-word, name-accepts}
 use Rattle.card.specs.declared.Card.{Card}
-use Rattle.card.specs.Counts.{CountsOf, countsWithin}
-use Rattle.card.proofs.Laws.{both, limits, below-all}
+use Rattle.card.specs.View.{ViewOf, countsWithin, entryPlace, tablePlace, productionPlace}
 
 -- The mark, by what was compared.
-pub no-header : (card : List ℕ) → length card < 12 → false ≡ markFits card
-no-header card h = rw (lt-leb 12 (length card) h)
+pub no-header : (card : List ℕ) → length card < leastHeader → false ≡ markFits card
+no-header card h = rw (lt-leb leastHeader (length card) h)
 
-pub mark-same : (card bytes : List ℕ) {t : Bool} → 12 ≤ length card → t ≡ sameBytes (take 4 card) bytes → bytes ≡ mark → t ≡ markFits card
-mark-same card bytes h same e = rw (le-leb 12 (length card) h, ← e) same
+pub mark-same : (card bytes : List ℕ) {t : Bool} → leastHeader ≤ length card → t ≡ sameBytes (take 4 card) bytes → bytes ≡ mark
+    → t ≡ markFits card
+mark-same card bytes h same e = rw (le-leb leastHeader (length card) h, ← e) same
 
-pub counts-same : {card : List ℕ} {c : Card} → CountsOf card c
-    → countsWithin (c .nonterminals) (c .words) (c .indices) (c .productions) ≡ countsFit card
+pub header-there : (card : List ℕ) → markFits card ≡ true → leastHeader ≤ length card
+header-there card e = leb-true leastHeader (length card) (both (leb leastHeader (length card)) _ e .0)
+
+pub counts-same : {card : List ℕ} {c : Card} → ViewOf card c → countsWithin c ≡ countsFit card
 counts-same h = rw (h .nonterminals, h .words, h .indices, h .productions)
 
 -- The counts in turn: the first that is outside its limits decides, and else the last.
-module _ (nonterminals words indices productions : ℕ) where
-  abbrev all-four : Bool
-  all-four = countsWithin nonterminals words indices productions
-
-  pub first-count : within 1 16 nonterminals ≡ false → false ≡ all-four
+module _ (c : Card) where
+  pub first-count : within 1 maxNonterminals (c .nonterminals) ≡ false → false ≡ countsWithin c
   first-count h = rw h
 
-  pub second-count : within 1 16 nonterminals ≡ true → within 1 32 words ≡ false → false ≡ all-four
-  second-count a h = rw (a, h)
+  module _ (one : within 1 maxNonterminals (c .nonterminals) ≡ true) where
+    pub second-count : within 1 maxWords (c .words) ≡ false → false ≡ countsWithin c
+    second-count h = rw (one, h)
 
-  pub third-count : within 1 16 nonterminals ≡ true → within 1 32 words ≡ true → within 0 8 indices ≡ false → false ≡ all-four
-  third-count a b h = rw (a, b, h)
+    module _ (two : within 1 maxWords (c .words) ≡ true) where
+      pub third-count : within 0 maxIndices (c .indices) ≡ false → false ≡ countsWithin c
+      third-count h = rw (one, two, h)
 
-  pub fourth-count : {t : Bool} → within 1 16 nonterminals ≡ true → within 1 32 words ≡ true → within 0 8 indices ≡ true
-      → t ≡ within 1 64 productions → t ≡ all-four
-  fourth-count a b c h = rw (a, b, c) h
+      pub fourth-count : {t : Bool} → within 0 maxIndices (c .indices) ≡ true → t ≡ within 1 maxProductions (c .productions)
+          → t ≡ countsWithin c
+      fourth-count three h = rw (one, two, three) h
 
-pub length-fits : (card : List ℕ) → lengthsFit card ≡ true → length card ≡ cardLength card
-length-fits card h =
-    eqb-true (length card) (cardLength card)
-    (both (eqb (wordAt card 10) (productionTable card)) _ (both (eqb (wordAt card 8) wordTable) _ h .1) .1)
+-- Where things stand by the view, and by the definitions.
+module _ {card : List ℕ} {c : Card} (h : ViewOf card c) where
+  pub view-entry : (v : ℕ) → entryPlace c v ≡ entryAt card v
+  view-entry v = rw (h .header)
 
--- The cascade: a number is given where its test is the first that does not hold.
+  pub view-words : entryPlace c 0 ≡ wordTable card
+  view-words = omega (arith, h .header)
+
+  pub view-table : tablePlace c ≡ productionTable card
+  view-table = rw (h .header, h .words)
+
+  pub view-length : productionPlace c (c .productions) ≡ cardLength card
+  view-length = rw (h .header, h .words, h .productions)
+
+-- The offsets and the length, compared in turn.
+module _ (card : List ℕ) where
+  pub other-words : (number16At card 8 ≡ wordTable card → ⊥) → false ≡ lengthsFit card
+  other-words n = rw (ne-eqb (number16At card 8) (wordTable card) n)
+
+  module _ (one : number16At card 8 ≡ wordTable card) where
+    pub other-table : (number16At card 10 ≡ productionTable card → ⊥) → false ≡ lengthsFit card
+    other-table n =
+        rw (eq-eqb (number16At card 8) (wordTable card) one, ne-eqb (number16At card 10) (productionTable card) n)
+
+    pub length-decides : number16At card 10 ≡ productionTable card → eqb (length card) (cardLength card) ≡ lengthsFit card
+    length-decides two =
+        rw (eq-eqb (number16At card 8) (wordTable card) one, eq-eqb (number16At card 10) (productionTable card) two)
+
+-- A number is given where its test is the first that does not hold.
 pub number-11 : (card : List ℕ) → markFits card ≡ false → 11 ≡ cardNumber card
-number-11 card h = rw h
+number-11 card h = answers-first (cardRefusals card) (failing h)
 
 module _ (card : List ℕ) (marked : markFits card ≡ true) where
   pub number-12 : countsFit card ≡ false → 12 ≡ cardNumber card
-  number-12 h = rw (marked, h)
+  number-12 h = answers-first (cardRefusals card) (holding marked (failing h))
 
-  pub number-13 : countsFit card ≡ true → lengthsFit card ≡ false → 13 ≡ cardNumber card
-  number-13 counted h = rw (marked, counted, h)
+  module _ (counted : countsFit card ≡ true) where
+    pub number-13 : lengthsFit card ≡ false → 13 ≡ cardNumber card
+    number-13 h = answers-first (cardRefusals card) (holding marked (holding counted (failing h)))
 
-  module _ (counted : countsFit card ≡ true) (measured : lengthsFit card ≡ true) where
-    pub number-14 : entriesFit card ≡ false → 14 ≡ cardNumber card
-    number-14 h = rw (marked, counted, measured, h)
+    module _ (measured : lengthsFit card ≡ true) where
+      pub number-14 : entriesFit card ≡ false → 14 ≡ cardNumber card
+      number-14 h = answers-first (cardRefusals card) (holding marked (holding counted (holding measured (failing h))))
 
-    pub number-15 : entriesFit card ≡ true → entriesDiffer card ≡ false → 15 ≡ cardNumber card
-    number-15 fit h = rw (marked, counted, measured, fit, h)
+      module _ (fit : entriesFit card ≡ true) where
+        pub number-15 : entriesDiffer card ≡ false → 15 ≡ cardNumber card
+        number-15 h = answers-first (cardRefusals card) (holding marked (holding counted (holding measured (holding fit (failing h)))))
 
-    pub number-16 : entriesFit card ≡ true → entriesDiffer card ≡ true → productionsFit card ≡ false → 16 ≡ cardNumber card
-    number-16 fit differ h = rw (marked, counted, measured, fit, differ, h)
+        module _ (differ : entriesDiffer card ≡ true) where
+          pub number-16 : productionsFit card ≡ false → 16 ≡ cardNumber card
+          number-16 h =
+              answers-first (cardRefusals card) (holding marked (holding counted (holding measured (holding fit (holding differ (failing h))))))
 
-    pub number-0 : entriesFit card ≡ true → entriesDiffer card ≡ true → productionsFit card ≡ true → 0 ≡ cardNumber card
-    number-0 fit differ table = rw (marked, counted, measured, fit, differ, table)
-
--- An accepted card: every test holds.
-pub record Accepted (card : List ℕ) : Type 0 where
-  pub marked : markFits card ≡ true
-  pub counted : countsFit card ≡ true
-  pub measured : lengthsFit card ≡ true
-  pub fit : entriesFit card ≡ true
-  pub differ : entriesDiffer card ≡ true
-  pub table : productionsFit card ≡ true
-
--- Were the test false, the number would be its refusal, and not 0.
-held : (t : Bool) {number given : ℕ} → given ≡ 0 → (t ≡ false → number ≡ given) → 0 < number → t ≡ true
-held true z h more = refl
-held false z h more = absurd (omega (arith, h refl))
-
-pub accepted : (card : List ℕ) → cardNumber card ≡ 0 → Accepted card
-accepted card z =
-    let marked = held (markFits card) z (number-11 card) (lit< tt) in
-    let counted = held (countsFit card) z (number-12 card marked) (lit< tt) in
-    let measured = held (lengthsFit card) z (number-13 card marked counted) (lit< tt) in
-    let fit = held (entriesFit card) z (number-14 card marked counted measured) (lit< tt) in
-    let differ = held (entriesDiffer card) z (number-15 card marked counted measured fit) (lit< tt) in
-    let table = held (productionsFit card) z (number-16 card marked counted measured fit differ) (lit< tt) in
-    record { marked = marked; counted = counted; measured = measured; fit = fit; differ = differ; table = table }
-
-pub accepted-length : (card : List ℕ) → cardNumber card ≡ 0 → length card ≡ cardLength card
-accepted-length card z = length-fits card (accepted card z .measured)
+          pub number-0 : productionsFit card ≡ true → 0 ≡ cardNumber card
+          number-0 h =
+              answers-first (cardRefusals card)
+              (holding marked (holding counted (holding measured (holding fit (holding differ (holding h accepts))))))
 
 -- A word that Name answers with 0.
 pub record Known (card : List ℕ) (word : ℕ) : Type 0 where
-  pub room : length card ≡ cardLength card
-  pub few : wordCount card ≤ 32
+  pub inside : entryAt card word + entryLength ≤ length card
+  pub few : wordCount card ≤ maxWords
   pub known : word < wordCount card
-  pub short : spellingLength card word ≤ 11
-
-named : (card : List ℕ) (word : ℕ) → Accepted card → word < wordCount card → Known card word
-named card word h known =
-    let entry = below-all (wordCount card) (entryFits card) (h .fit) word known in
-    let words = both (within 1 16 (nonterminalCount card)) _ (h .counted) .1 in
-    record {
-      room = length-fits card (h .measured);
-      few = limits 1 32 (wordCount card) (both (within 1 32 (wordCount card)) _ words .0) .1;
-      known = known;
-      short = limits 1 11 (spellingLength card word) (both (within 1 11 (spellingLength card word)) _ entry .0) .1;
-    }
+  pub short : spellingLength card word ≤ mostLetters
 
 pub known-word : (card : List ℕ) (word : ℕ) → nameNumber card word ≡ 0 → Known card word
-known-word card word h = go (eqb (cardNumber card) 0) refl h
-  where
-    go : (t : Bool) → eqb (cardNumber card) 0 ≡ t → check t (cardNumber card) (check (ltb word (wordCount card)) 35 0) ≡ 0 → Known card word
-    go true e z = named card word (accepted card (eqb-true (cardNumber card) 0 e)) (less (ltb word (wordCount card)) refl z)
-      where
-        less : (t : Bool) → ltb word (wordCount card) ≡ t → check t 35 0 ≡ 0 → word < wordCount card
-        less true e z = ltb-true word (wordCount card) e
-        less false e z = absurd (omega arith)
-    go false e z = absurd (eqb-false (cardNumber card) 0 e z)
+known-word card word h =
+    let (z, known) = name-accepts card word h in
+    let entry = below-all (wordCount card) (entryFits card) (accepted-card card z .fit) word known in
+    let size = both (within 1 mostLetters (spellingLength card word)) _ entry .0 in
+    record {
+      inside = entry-inside card word z known;
+      few = accepted-counts card z .fewWords;
+      known = known;
+      short = limits 1 mostLetters (spellingLength card word) size .1;
+    }
 
 -- Name's number, by the card's number and the count of words as the code has them.
 module _ (card : List ℕ) (word number : ℕ) (same : number ≡ cardNumber card) where
   pub name-refused : (number ≡ 0 → ⊥) → number ≡ nameNumber card word
-  name-refused ne = rw (ne-eqb (cardNumber card) 0 λ e. ne (same ∙ e)) same
+  name-refused ne = same ∙ sym (name-of-card card word λ e. ne (same ∙ e))
 
-  pub name-unknown : {words : ℕ} → number ≡ 0 → words ≡ wordCount card → words ≤ word → 35 ≡ nameNumber card word
-  name-unknown z e le = rw (eq-eqb (cardNumber card) 0 (sym same ∙ z), le-ltb word (wordCount card) (rw e at le))
+  module _ {words : ℕ} (z : number ≡ 0) (e : words ≡ wordCount card) where
+    pub name-unknown : words ≤ word → 35 ≡ nameNumber card word
+    name-unknown le =
+        answers-first (unless (ltb word (wordCount card)) 35 ∷ []) (failing (le-ltb word (wordCount card) (rw e at le))) ∙ sym (name-of-word card word (sym same ∙ z))
 
-  pub name-known : {words : ℕ} → number ≡ 0 → words ≡ wordCount card → word < words → 0 ≡ nameNumber card word
-  name-known z e lt = rw (eq-eqb (cardNumber card) 0 (sym same ∙ z), lt-ltb word (wordCount card) (rw e at lt))
+    pub name-known : word < words → 0 ≡ nameNumber card word
+    name-known lt =
+        answers-first (unless (ltb word (wordCount card)) 35 ∷ []) (holding (lt-ltb word (wordCount card) (rw e at lt)) accepts) ∙ sym (name-of-word card word (sym same ∙ z))
 
 -- The part of the card that Name returns.
-pub size-at : (card : List ℕ) (word at : ℕ) {b n : ℕ} → at ≡ entryAt word → b ≡ byteAt card at → n ≡ b → n ≡ spellingLength card word
+pub size-at : (card : List ℕ) (word at : ℕ) {b n : ℕ} → at ≡ entryAt card word → b ≡ byteAt card at → n ≡ b → n ≡ spellingLength card word
 size-at card word at e h same = rw (same, h, e)
 
-pub name-part : (card : List ℕ) (word at n : ℕ) → nameNumber card word ≡ 0 → at ≡ entryAt word → n ≡ spellingLength card word
+pub name-part : (card : List ℕ) (word at n : ℕ) → nameNumber card word ≡ 0 → at ≡ entryAt card word → n ≡ spellingLength card word
     → take (at + 1 + n - (at + 1)) (drop (at + 1) card) ≡ namePart card word
 name-part card word at n z e h = rw (eq-eqb (nameNumber card word) 0 z, add-sub-cancel-left, h, e)
 

@@ -1,99 +1,16 @@
--- Laws of the tests of `layout`'s definitions, over plain lists and numbers: a test of all holds where each one holds, and
--- does not where some one does not. The proofs of the functions cite them at what their loops have shown.
-use Prim.Native.Nat.{ℕ, zero, suc, _+_, _-_, _<_, _≤_}
+-- Laws of the parts of a card, over plain lists and numbers: a production's bytes at their place, and a word entry as the parts that the
+-- code looks at.
+use Prim.Native.Nat.{ℕ, zero, suc, _+_, _-_}
 use native.Mathlib.Omega.{arith}
-use native.Mathlib.Decide.{ℕ-discrete}
-use mathlib.Core.Path.{_≡_, refl, sym, _∙_, ap, ap₂}
-use mathlib.Core.Bool.{Bool, true, false, not, _&&_, and-assoc, and-eq-true-iff, false≢true}
-use mathlib.Core.List.{List, [], _∷_, _++_}
-use borrow.Author.Tests.{not-true, not-false, leb-true, eqb-true, eq-eqb, ne-eqb}
-use lib.Dec.{eqb, leb}
-use lib.ListN.{length, getD, take, drop}
-use lib.Seq.{take-nil, drop-drop}
 use native.Mathlib.Nat.{sub-zero, zero-sub, suc-sub-suc, add-sub-cancel-left}
-use Rattle.layout.specs.Bytes.{byteAt, isLetter, sameBytes, allBytes, allBelow}
-use Rattle.layout.specs.Card.{entryAt, entryFits, within}
-
--- A test that was made by a function: its answer t is the definition's b.
-pub refused : {t b : Bool} → t ≡ b → not t ≡ true → b ≡ false
-refused {t} e h = sym e ∙ not-true t h
-
-pub passed : {t b : Bool} → t ≡ b → not t ≡ false → b ≡ true
-passed {t} e h = sym e ∙ not-false t h
-
--- A later part that does not hold.
-no-later : (t : Bool) {b : Bool} → false ≡ b → false ≡ (t && b)
-no-later true h = h
-no-later false h = refl
-
--- The two parts of a test that holds; and so the limits of a number.
-pub both : (a b : Bool) → (a && b) ≡ true → (a ≡ true) × (b ≡ true)
-both a b h = and-eq-true-iff a b .0 h
-
-pub limits : (low high x : ℕ) → within low high x ≡ true → (low ≤ x) × (x ≤ high)
-limits low high x h = let (l, u) = both (leb low x) (leb x high) h in (leb-true low x l, leb-true x high u)
-
--- Of every byte.
-pub all-bytes : (test : ℕ → Bool) (l : List ℕ) → ((k : ℕ) → k < length l → test (getD l k 0) ≡ true) → true ≡ allBytes test l
-all-bytes test [] h = refl
-all-bytes test (b ∷ l) h = rw (h 0 (omega arith)) (all-bytes test l λ k lt. h (suc k) (omega arith))
-
-pub some-byte : (test : ℕ → Bool) (l : List ℕ) (k : ℕ) → k < length l → test (getD l k 0) ≡ false → false ≡ allBytes test l
-some-byte test [] k lt h = absurd (omega arith)
-some-byte test (b ∷ l) zero lt h = rw h
-some-byte test (b ∷ l) (suc k) lt h = no-later (test b) (some-byte test l k (omega arith) h)
-
--- Of two lists byte by byte.
-pub same-all : (a b : List ℕ) → length a ≡ length b → ((k : ℕ) → k < length a → getD a k 0 ≡ getD b k 0) → true ≡ sameBytes a b
-same-all [] [] e h = refl
-same-all [] (y ∷ b) e h = absurd (omega arith)
-same-all (x ∷ a) [] e h = absurd (omega arith)
-same-all (x ∷ a) (y ∷ b) e h =
-    rw (eq-eqb x y (h 0 (omega arith))) (same-all a b (omega arith) λ k lt. h (suc k) (omega arith))
-
-pub same-not : (a b : List ℕ) (k : ℕ) → k < length a → (getD a k 0 ≡ getD b k 0 → ⊥) → false ≡ sameBytes a b
-same-not [] b k lt h = absurd (omega arith)
-same-not (x ∷ a) [] k lt h = refl
-same-not (x ∷ a) (y ∷ b) zero lt h = rw (ne-eqb x y h)
-same-not (x ∷ a) (y ∷ b) (suc k) lt h = no-later (eqb x y) (same-not a b k (omega arith) h)
-
-pub same-length : (a b : List ℕ) → (length a ≡ length b → ⊥) → false ≡ sameBytes a b
-same-length [] [] h = absurd (h refl)
-same-length [] (y ∷ b) h = refl
-same-length (x ∷ a) [] h = refl
-same-length (x ∷ a) (y ∷ b) h = no-later (eqb x y) (same-length a b λ e. h (ap suc e))
-
-pub same-self : (a : List ℕ) → sameBytes a a ≡ true
-same-self a = sym (same-all a a refl λ k lt. refl)
-
-pub same-equal : (a b : List ℕ) → sameBytes a b ≡ true → a ≡ b
-same-equal [] [] h = refl
-same-equal [] (y ∷ b) h = absurd (false≢true h)
-same-equal (x ∷ a) [] h = absurd (false≢true h)
-same-equal (x ∷ a) (y ∷ b) h = let (e, f) = both (eqb x y) (sameBytes a b) h in ap₂ _∷_ (eqb-true x y e) (same-equal a b f)
-
-pub same-append : (a b a′ b′ : List ℕ) → length a ≡ length b → sameBytes (a ++ a′) (b ++ b′) ≡ (sameBytes a b && sameBytes a′ b′)
-same-append [] [] a′ b′ e = refl
-same-append [] (y ∷ b) a′ b′ e = absurd (omega arith)
-same-append (x ∷ a) [] a′ b′ e = absurd (omega arith)
-same-append (x ∷ a) (y ∷ b) a′ b′ e = rw (and-assoc, same-append a b a′ b′ (omega arith))
-
--- Of every number below n.
-pub all-below : (n : ℕ) (test : ℕ → Bool) → ((v : ℕ) → v < n → test v ≡ true) → true ≡ allBelow n test
-all-below zero test h = refl
-all-below (suc n) test h = rw (h n (omega arith)) (all-below n test λ v lt. h v (omega arith))
-
-pub some-below : (n : ℕ) (test : ℕ → Bool) (v : ℕ) → v < n → test v ≡ false → false ≡ allBelow n test
-some-below zero test v lt h = absurd (omega arith)
-some-below (suc n) test v lt h =
-    elim (ℕ-discrete v n) [ yes e ↦ rw (← e, h) | no ne ↦ no-later (test n) (some-below n test v (omega arith) h) ]
-
-pub below-all : (n : ℕ) (test : ℕ → Bool) → allBelow n test ≡ true → (v : ℕ) → v < n → test v ≡ true
-below-all n test h v lt = go (test v) refl
-  where
-    go : (t : Bool) → test v ≡ t → t ≡ true
-    go true e = refl
-    go false e = some-below n test v lt e ∙ h
+use mathlib.Core.Path.{_≡_}
+use mathlib.Core.Bool.{true, false, _&&_}
+use mathlib.Core.List.{List, [], _∷_}
+use lib.Dec.{eqb}
+use lib.ListN.{take, drop}
+use lib.Seq.{take-nil, drop-drop}
+use Rattle.layout.specs.Bytes.{byteAt, isLetter, allBytes}
+use Rattle.layout.specs.Card.{entryAt, entryFits, mostLetters, within}
 
 -- A production's bytes, read at a place that is its place, and one by one.
 pub byte-from : (card : List ℕ) (at place k : ℕ) {b : ℕ} → at ≡ place → b ≡ byteAt card (at + k) → b ≡ byteAt card (place + k)
@@ -120,22 +37,22 @@ padding-part card at n =
     let place : at + 1 + n ≡ at + (1 + n) = omega arith in
     rw (drop-take, drop-drop, size, place)
 
-entry-parts : (card : List ℕ) (v at n : ℕ) → at ≡ entryAt v → n ≡ byteAt card at
-    → (within 1 11 n
+entry-parts : (card : List ℕ) (v at n : ℕ) → at ≡ entryAt card v → n ≡ byteAt card at
+    → (within 1 mostLetters n
     && (allBytes isLetter (take (at + 1 + n - (at + 1)) (drop (at + 1) card))
     && allBytes (eqb 0) (take (at + 12 - (at + 1 + n)) (drop (at + 1 + n) card))))
     ≡ entryFits card v
 entry-parts card v at n e h = rw (spelling-part, padding-part, h, e)
 
 -- An entry that starts at `at` and has the length byte n: what its parts say of it.
-module _ (card : List ℕ) (v at n : ℕ) (place : at ≡ entryAt v) (length-byte : n ≡ byteAt card at) where
-  pub entry-size : within 1 11 n ≡ false → false ≡ entryFits card v
+module _ (card : List ℕ) (v at n : ℕ) (place : at ≡ entryAt card v) (length-byte : n ≡ byteAt card at) where
+  pub entry-size : within 1 mostLetters n ≡ false → false ≡ entryFits card v
   entry-size size = rw size at (entry-parts card v at n place length-byte)
 
-  pub entry-spelling : within 1 11 n ≡ true → allBytes isLetter (take (at + 1 + n - (at + 1)) (drop (at + 1) card)) ≡ false
+  pub entry-spelling : within 1 mostLetters n ≡ true → allBytes isLetter (take (at + 1 + n - (at + 1)) (drop (at + 1) card)) ≡ false
       → false ≡ entryFits card v
   entry-spelling size letters = rw (size, letters) at (entry-parts card v at n place length-byte)
 
-  pub entry-padding : within 1 11 n ≡ true → allBytes isLetter (take (at + 1 + n - (at + 1)) (drop (at + 1) card)) ≡ true
+  pub entry-padding : within 1 mostLetters n ≡ true → allBytes isLetter (take (at + 1 + n - (at + 1)) (drop (at + 1) card)) ≡ true
       → allBytes (eqb 0) (take (at + 12 - (at + 1 + n)) (drop (at + 1 + n) card)) ≡ entryFits card v
   entry-padding size letters = rw (size, letters) at (entry-parts card v at n place length-byte)

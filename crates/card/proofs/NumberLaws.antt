@@ -11,23 +11,23 @@ use lib.Dec.{eqb, lit<}
 use lib.ListN.{length, getD, take, drop, length-drop}
 use lib.Seq.{take-add, drop-drop, drop-cons, getD-drop, length-take-le}
 use Rattle.layout.specs.Bytes.{sameBytes}
-use Rattle.card.specs.Numbers.{numberOf}
-use Rattle.card.proofs.Laws.{same-self, same-equal, same-append}
+use Rattle.card.specs.Numbers.{asNumber}
+use Rattle.layout.proofs.TestLaws.{same-self, same-equal, same-append}
 
 -- What a slice of bytes is known to be; past its end getD gives 0.
 abbrev pub AreBytes : List ℕ → Type 0
 AreBytes bytes = (k : ℕ) → getD bytes k 0 < 256
 
-pub number-below : (bytes : List ℕ) → AreBytes bytes → numberOf bytes < 256 ^ length bytes
+pub number-below : (bytes : List ℕ) → AreBytes bytes → asNumber bytes < 256 ^ length bytes
 number-below [] h = omega arith
 number-below (b ∷ bytes) h = rw pow-succ' (omega (arith, h 0, number-below bytes λ k. h (suc k)))
 
-pub number-append : (bytes more : List ℕ) → numberOf (bytes ++ more) ≡ numberOf bytes + 256 ^ length bytes * numberOf more
+pub number-append : (bytes more : List ℕ) → asNumber (bytes ++ more) ≡ asNumber bytes + 256 ^ length bytes * asNumber more
 number-append [] more = omega arith
 number-append (b ∷ bytes) more = rw (pow-succ', mul-assoc) (omega (arith, number-append bytes more))
 
 pub same-number : (bytes bytes′ : List ℕ) → AreBytes bytes → AreBytes bytes′ → length bytes ≡ length bytes′
-    → numberOf bytes ≡ numberOf bytes′ → bytes ≡ bytes′
+    → asNumber bytes ≡ asNumber bytes′ → bytes ≡ bytes′
 same-number [] [] h h′ same e = refl
 same-number [] (b′ ∷ bytes′) h h′ same e = absurd (omega arith)
 same-number (b ∷ bytes) [] h h′ same e = absurd (omega arith)
@@ -37,13 +37,13 @@ same-number (b ∷ bytes) (b′ ∷ bytes′) h h′ same e =
     ap₂ _∷_ (omega arith) (same-number bytes bytes′ (λ k. h (suc k)) (λ k. h′ (suc k)) (omega arith) (omega arith))
 
 pub same-test : (bytes bytes′ : List ℕ) → AreBytes bytes → AreBytes bytes′ → length bytes ≡ length bytes′
-    → eqb (numberOf bytes) (numberOf bytes′) ≡ sameBytes bytes bytes′
+    → eqb (asNumber bytes) (asNumber bytes′) ≡ sameBytes bytes bytes′
 same-test bytes bytes′ h h′ same = go (sameBytes bytes bytes′) refl
   where
-    go : (t : Bool) → sameBytes bytes bytes′ ≡ t → eqb (numberOf bytes) (numberOf bytes′) ≡ t
-    go true e = eq-eqb (numberOf bytes) (numberOf bytes′) (ap numberOf (same-equal bytes bytes′ e))
+    go : (t : Bool) → sameBytes bytes bytes′ ≡ t → eqb (asNumber bytes) (asNumber bytes′) ≡ t
+    go true e = eq-eqb (asNumber bytes) (asNumber bytes′) (ap asNumber (same-equal bytes bytes′ e))
     go false e =
-        ne-eqb (numberOf bytes) (numberOf bytes′) λ n. false≢true (sym e ∙ rw (same-number bytes bytes′ h h′ same n) (same-self bytes′))
+        ne-eqb (asNumber bytes) (asNumber bytes′) λ n. false≢true (sym e ∙ rw (same-number bytes bytes′ h h′ same n) (same-self bytes′))
 
 -- A part of bytes is bytes.
 pub bytes-take : (m : ℕ) (bytes : List ℕ) → AreBytes bytes → AreBytes (take m bytes)
@@ -62,21 +62,21 @@ part-length s at m within = length-take-le m (drop at s) (rw length-drop (omega 
 part-bytes : (s : List ℕ) (at m : ℕ) → AreBytes s → AreBytes (take m (drop at s))
 part-bytes s at m h = bytes-take m (drop at s) (bytes-drop at s h)
 
-pub part-one : (s : List ℕ) (at : ℕ) → at < length s → getD s at 0 ≡ numberOf (take 1 (drop at s))
+pub part-one : (s : List ℕ) (at : ℕ) → at < length s → getD s at 0 ≡ asNumber (take 1 (drop at s))
 part-one s at h = rw (drop-cons s at 0) (omega arith)
 
 -- Their number as x.
-module _ (s : List ℕ) (at m : ℕ) (within : at + m ≤ length s) {x : ℕ} (e : x ≡ numberOf (take m (drop at s))) where
+module _ (s : List ℕ) (at m : ℕ) (within : at + m ≤ length s) {x : ℕ} (e : x ≡ asNumber (take m (drop at s))) where
   pub part-below : AreBytes s → x < 256 ^ m
   part-below h = rw e (rw (part-length s at m within) at (number-below (take m (drop at s)) (part-bytes s at m h)))
 
   -- And as y that of the n bytes after them.
-  pub part-more : (n : ℕ) {y : ℕ} → y ≡ numberOf (take n (drop (at + m) s)) → x + 256 ^ m * y ≡ numberOf (take (m + n) (drop at s))
+  pub part-more : (n : ℕ) {y : ℕ} → y ≡ asNumber (take n (drop (at + m) s)) → x + 256 ^ m * y ≡ asNumber (take (m + n) (drop at s))
   part-more n f = rw (take-add, number-append, part-length s at m within, drop-drop, e, f)
 
 -- The m bytes at two places, by their numbers: where these differ so do longer parts, and else the bytes after them decide.
 module _ (s : List ℕ) (h : AreBytes s) (at at′ m : ℕ) (within : at + m ≤ length s) (within′ : at′ + m ≤ length s) {x x′ : ℕ}
-    (e : x ≡ numberOf (take m (drop at s))) (e′ : x′ ≡ numberOf (take m (drop at′ s))) where
+    (e : x ≡ asNumber (take m (drop at s))) (e′ : x′ ≡ asNumber (take m (drop at′ s))) where
   same-size : length (take m (drop at s)) ≡ length (take m (drop at′ s))
   same-size = part-length s at m within ∙ sym (part-length s at′ m within′)
 

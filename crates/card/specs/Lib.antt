@@ -1,3 +1,3 @@
-pub mod Counts
+pub mod View
 pub mod Numbers
 pub mod Productions

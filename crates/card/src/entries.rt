@@ -1,23 +1,24 @@
 // Refusals 14 and 15: each word entry's layout, and no two entries equal.
 use crate::Card;
-use crate::bytes::all_letters;
-use crate::bytes::all_zero;
-use crate::bytes::byte;
-use crate::bytes::eight;
-use crate::bytes::four;
-use crate::bytes::wide;
-use crate::bytes::within;
+use crate::numbers::eight;
+use crate::numbers::four;
+use crate::numbers::within;
+use octets::all_letters;
+use octets::all_zero;
+use octets::byte;
+use octets::wide;
 ghost use mathlib.Core.Path.{_≡_};
 ghost use Prim.Native.Nat.{_≤_, _<_, _+_};
 ghost use lib.ListN.{length};
 ghost use Rattle.layout.specs.Bytes.{sameBytes};
-ghost use Rattle.layout.specs.Card.{entryAt, entryOf, wordCount, entryFits, entriesFit, entryIsNew, entriesDiffer};
+ghost use Rattle.layout.specs.Card.{entryLength, entryAt, entryOf, wordCount, entryFits, entriesFit, entryIsNew, entriesDiffer};
+ghost use Rattle.card.specs.View.{ViewOf};
 
-pub fn entry_fits(card: &[u8], v: usize) -> bool
-    requires { ⌜ (v < 256) × (entryAt v + 12 ≤ length (now card)) ⌝ }
+fn entry_fits(card: &[u8], view: Card, v: usize) -> bool
+    requires { ⌜ ViewOf (now card) view × (v < 256) × (entryAt (now card) v + entryLength ≤ length (now card)) ⌝ }
     ensures { λ r. ⌜ r ≡ entryFits (now (card .entry)) v ⌝ }
 {
-    let at = Card::entry_at(v);
+    let at = view.entry_at(v);
     let n = wide(byte(card, at));
     // One byte of the entry is the length itself.
     if !within(1, Card::ENTRY - 1, n) {
@@ -32,14 +33,14 @@ pub fn entry_fits(card: &[u8], v: usize) -> bool
     all_zero(&card[to..end])
 }
 
-pub fn entries_fit(card: &[u8]) -> bool
-    requires { ⌜ entryAt (wordCount (now card)) ≤ length (now card) ⌝ }
+pub fn entries_fit(card: &[u8], view: Card) -> bool
+    requires { ⌜ ViewOf (now card) view × (entryAt (now card) (wordCount (now card)) ≤ length (now card)) ⌝ }
     ensures { λ r. ⌜ r ≡ entriesFit (now (card .entry)) ⌝ }
 {
-    let words = Card::of(card).words;
+    let words = view.words;
     let mut v = 0;
     while v < words {
-        if !entry_fits(card, v) {
+        if !entry_fits(card, view, v) {
             return false;
         }
         v += 1;
@@ -48,25 +49,25 @@ pub fn entries_fit(card: &[u8]) -> bool
 }
 
 // The 12 bytes as two numbers.
-pub fn entries_equal(card: &[u8], u: usize, v: usize) -> bool
-    requires { ⌜ (u < v) × (v < 256) × (entryAt v + 12 ≤ length (now card)) ⌝ }
+fn entries_equal(card: &[u8], view: Card, u: usize, v: usize) -> bool
+    requires { ⌜ ViewOf (now card) view × (u < v) × (v < 256) × (entryAt (now card) v + entryLength ≤ length (now card)) ⌝ }
     ensures { λ r. ⌜ r ≡ sameBytes (entryOf (now (card .entry)) u) (entryOf (now (card .entry)) v) ⌝ }
 {
-    let a = Card::entry_at(u);
-    let b = Card::entry_at(v);
+    let a = view.entry_at(u);
+    let b = view.entry_at(v);
     if eight(card, a) != eight(card, b) {
         return false;
     }
     four(card, a + 8) == four(card, b + 8)
 }
 
-pub fn entry_is_new(card: &[u8], v: usize) -> bool
-    requires { ⌜ (v < 256) × (entryAt v + 12 ≤ length (now card)) ⌝ }
+fn entry_is_new(card: &[u8], view: Card, v: usize) -> bool
+    requires { ⌜ ViewOf (now card) view × (v < 256) × (entryAt (now card) v + entryLength ≤ length (now card)) ⌝ }
     ensures { λ r. ⌜ r ≡ entryIsNew (now (card .entry)) v ⌝ }
 {
     let mut u = 0;
     while u < v {
-        if entries_equal(card, u, v) {
+        if entries_equal(card, view, u, v) {
             return false;
         }
         u += 1;
@@ -74,14 +75,14 @@ pub fn entry_is_new(card: &[u8], v: usize) -> bool
     true
 }
 
-pub fn entries_differ(card: &[u8]) -> bool
-    requires { ⌜ entryAt (wordCount (now card)) ≤ length (now card) ⌝ }
+pub fn entries_differ(card: &[u8], view: Card) -> bool
+    requires { ⌜ ViewOf (now card) view × (entryAt (now card) (wordCount (now card)) ≤ length (now card)) ⌝ }
     ensures { λ r. ⌜ r ≡ entriesDiffer (now (card .entry)) ⌝ }
 {
-    let words = Card::of(card).words;
+    let words = view.words;
     let mut v = 0;
     while v < words {
-        if !entry_is_new(card, v) {
+        if !entry_is_new(card, view, v) {
             return false;
         }
         v += 1;

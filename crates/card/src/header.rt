@@ -1,39 +1,31 @@
 // Refusals 11 and 13: the mark, the offsets and the length.
 use crate::Card;
-use crate::bytes::byte;
-use crate::bytes::same_bytes;
-use crate::bytes::wide;
+use octets::read16;
+use octets::same_bytes;
 ghost use mathlib.Core.Path.{_≡_};
-ghost use Prim.Native.Nat.{_<_};
-ghost use Rattle.layout.specs.Bytes.{wordAt};
-ghost use Rattle.layout.specs.Card.{markFits, lengthsFit};
+ghost use Prim.Native.Nat.{_≤_};
+ghost use lib.ListN.{length};
+ghost use Rattle.layout.specs.Card.{leastHeader, markFits, lengthsFit};
+ghost use Rattle.card.specs.View.{ViewOf};
 
 pub fn mark_fits(card: &[u8]) -> bool
     ensures { λ r. ⌜ r ≡ markFits (now (card .entry)) ⌝ }
 {
-    if card.len() < Card::HEADER {
+    if card.len() < Card::LEAST_HEADER {
         return false;
     }
     same_bytes(&card[..4], b"LIG1")
 }
 
-// The 16-bit number at a place of the header, low byte first.
-fn two_bytes(card: &[u8], k: usize) -> usize
-    requires { ⌜ k < 12 ⌝ }
-    ensures { λ r. ⌜ r ≡ wordAt (now (card .entry)) k ⌝ }
-{
-    wide(byte(card, k)) + 256 * wide(byte(card, k + 1))
-}
-
-pub fn lengths_fit(card: &[u8]) -> bool
+pub fn lengths_fit(card: &[u8], view: Card) -> bool
+    requires { ⌜ ViewOf (now card) view × (leastHeader ≤ length (now card)) ⌝ }
     ensures { λ r. ⌜ r ≡ lengthsFit (now (card .entry)) ⌝ }
 {
-    let counts = Card::of(card);
-    if two_bytes(card, 8) != Card::WORD_TABLE {
+    if read16(card, 8) != view.entry_at(0) {
         return false;
     }
-    if two_bytes(card, 10) != counts.production_table() {
+    if read16(card, 10) != view.production_table() {
         return false;
     }
-    card.len() == counts.length()
+    card.len() == view.length()
 }

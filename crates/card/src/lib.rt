@@ -1,23 +1,25 @@
 // The card: its type, the check of its bytes, its productions and the names of its words (document 01, "The card").
-// A byte past the end of a card reads as 0, so every function here takes any bytes of any length, but for `production_in`, which is
+// A byte past the end of a card reads as 0, so every function here takes any bytes of any length, but for `Card::production`, which is
 // asked of an accepted card.
-pub mod bytes;
 mod entries;
 mod header;
-pub mod productions;
+mod numbers;
+mod productions;
 
-use bytes::byte;
-use bytes::wide;
-use bytes::within;
+use numbers::within;
+use octets::byte;
+use octets::wide;
 ghost use mathlib.Core.Path.{_≡_};
-ghost use Prim.Native.Nat.{_<_, _+_, _*_};
-ghost use Rattle.layout.specs.Card.{entryAt, productionCount, production, cardNumber};
+ghost use Prim.Native.Nat.{_≤_, _<_};
+ghost use Rattle.layout.specs.Card.{production, cardNumber};
 ghost use Rattle.layout.specs.Answers.{nameNumber, namePart};
-ghost use Rattle.card.specs.Counts.{CountsOf, countsWithin};
-ghost use Rattle.card.specs.Productions.{ruleFrom};
+ghost use Rattle.card.specs.View.{ViewOf, countsWithin, entryPlace, tablePlace, productionPlace};
+ghost use Rattle.card.specs.Productions.{ruleFrom, ProductionThere};
 
-// The four counts of a card. The limits and the places of its tables belong to this type.
+// Where things stand on a card: the length of its header, and its four counts. The limits and the places of the tables belong to this
+// type.
 pub struct Card {
+    pub header: usize,
     pub nonterminals: usize,
     pub words: usize,
     pub indices: usize,
@@ -33,19 +35,19 @@ impl Card {
 
     pub const MAX_PRODUCTIONS: usize = 64;
 
-    // Bytes in the header, in a word entry and in a production, and where the word table starts.
-    pub const HEADER: usize = 12;
+    // Bytes in the shortest header, in a word entry and in a production.
+    pub const LEAST_HEADER: usize = 12;
 
     pub const ENTRY: usize = 12;
 
     pub const PRODUCTION: usize = 6;
 
-    pub const WORD_TABLE: usize = 12;
-
+    // The view of any bytes.
     pub fn of(card: &[u8]) -> Card
-        ensures { λ r. ⌜ CountsOf (now (card .entry)) r ⌝ }
+        ensures { λ r. ⌜ ViewOf (now (card .entry)) r ⌝ }
     {
         Card {
+            header: Self::LEAST_HEADER,
             nonterminals: wide(byte(card, 4)),
             words: wide(byte(card, 5)),
             indices: wide(byte(card, 6)),
@@ -55,7 +57,7 @@ impl Card {
 
     // Refusal 12 asks this.
     pub fn counts_fit(self) -> bool
-        ensures { λ r. ⌜ r ≡ countsWithin (self .nonterminals) (self .words) (self .indices) (self .productions) ⌝ }
+        ensures { λ r. ⌜ r ≡ countsWithin self ⌝ }
     {
         if !within(1, Self::MAX_NONTERMINALS, self.nonterminals) {
             return false;
@@ -70,34 +72,36 @@ impl Card {
     }
 
     // Where entry v starts.
-    pub fn entry_at(v: usize) -> usize
-        requires { ⌜ v < 256 ⌝ }
-        ensures { λ r. ⌜ r ≡ entryAt v ⌝ }
+    pub fn entry_at(self, v: usize) -> usize
+        requires { ⌜ (self .header ≤ 16) × (v < 256) ⌝ }
+        ensures { λ r. ⌜ r ≡ entryPlace self v ⌝ }
     {
-        Self::WORD_TABLE + Self::ENTRY * v
+        self.header + Self::ENTRY * v
     }
 
-    fn production_table(self) -> usize
-        requires { ⌜ self .words < 256 ⌝ }
-        ensures { λ r. ⌜ r ≡ 12 + 12 * self .words ⌝ }
+    // Where the productions start.
+    pub fn production_table(self) -> usize
+        requires { ⌜ (self .header ≤ 16) × (self .words < 256) ⌝ }
+        ensures { λ r. ⌜ r ≡ tablePlace self ⌝ }
     {
-        Self::WORD_TABLE + Self::ENTRY * self.words
-    }
-
-    // Where production m starts.
-    fn production_at(self, m: usize) -> usize
-        requires { ⌜ (self .words < 256) × (m < 256) ⌝ }
-        ensures { λ r. ⌜ r ≡ 12 + 12 * self .words + 6 * m ⌝ }
-    {
-        self.production_table() + Self::PRODUCTION * m
+        self.entry_at(self.words)
     }
 
     // Where the last production ends.
     fn length(self) -> usize
-        requires { ⌜ (self .words < 256) × (self .productions < 256) ⌝ }
-        ensures { λ r. ⌜ r ≡ 12 + 12 * self .words + 6 * self .productions ⌝ }
+        requires { ⌜ (self .header ≤ 16) × (self .words < 256) × (self .productions < 256) ⌝ }
+        ensures { λ r. ⌜ r ≡ productionPlace self (self .productions) ⌝ }
     {
-        self.production_at(self.productions)
+        self.production_table() + Self::PRODUCTION * self.productions
+    }
+
+    // Production m of an accepted card whose table of productions starts at `table`.
+    pub fn production(card: &[u8], table: usize, m: usize) -> Production
+        requires { ⌜ ProductionThere (now card) table m ⌝ }
+        ensures { λ r. ⌜ ruleFrom r ≡ production (now (card .entry)) m ⌝ }
+    {
+        let f = productions::fields_at(card, table + Self::PRODUCTION * m);
+        productions::production_of(f.kind, f.a, f.b, f.c, f.g)
     }
 }
 
@@ -135,16 +139,17 @@ pub fn card_number(card: &[u8]) -> u64
     if !header::mark_fits(card) {
         return 11;
     }
-    if !Card::of(card).counts_fit() {
+    let view = Card::of(card);
+    if !view.counts_fit() {
         return 12;
     }
-    if !header::lengths_fit(card) {
+    if !header::lengths_fit(card, view) {
         return 13;
     }
     // These three look at the whole card whatever the others find: the order of refusals stands here alone.
-    let fit = entries::entries_fit(card);
-    let differ = entries::entries_differ(card);
-    let table = productions::productions_fit(card);
+    let fit = entries::entries_fit(card, view);
+    let differ = entries::entries_differ(card, view);
+    let table = productions::productions_fit(card, view);
     if !fit {
         return 14;
     }
@@ -155,29 +160,6 @@ pub fn card_number(card: &[u8]) -> u64
         return 16;
     }
     0
-}
-
-// Production m of any bytes.
-pub fn decode(card: &[u8], m: u8) -> Production
-    ensures { λ r. ⌜ ruleFrom r ≡ production (now (card .entry)) m ⌝ }
-{
-    let f = productions::fields_of(card, wide(m));
-    productions::production_of(f.kind, f.a, f.b, f.c, f.g)
-}
-
-// Production m of an accepted card.
-pub fn production_in(card: &[u8], m: usize) -> Production
-    requires { ⌜ (cardNumber (now card) ≡ 0) × (m < productionCount (now card)) ⌝ }
-    ensures { λ r. ⌜ ruleFrom r ≡ production (now (card .entry)) m ⌝ }
-{
-    let at = Card::WORD_TABLE + Card::ENTRY * wide(card[5]) + Card::PRODUCTION * m;
-    productions::production_of(
-        card[at],
-        card[at + 1],
-        card[at + 2],
-        card[at + 3],
-        card[at + 4],
-    )
 }
 
 // The card's refusals, then 35 for a word that the card does not have.
@@ -202,7 +184,7 @@ pub fn name(card: &[u8], word: usize) -> &[u8]
     if name_number(card, word) != 0 {
         return &card[..0];
     }
-    let at = Card::entry_at(word);
+    let at = Card::of(card).entry_at(word);
     let from = at + 1;
     let to = at + 1 + wide(byte(card, at));
     &card[from..to]

@@ -2,14 +2,14 @@
 use crate::Action;
 use crate::Card;
 use crate::Production;
-use crate::bytes::byte;
-use crate::bytes::within;
+use crate::numbers::within;
 ghost use mathlib.Core.Path.{_≡_};
 ghost use Prim.Native.Nat.{_<_, _≤_, _+_};
 ghost use lib.ListN.{length};
-ghost use Rattle.layout.specs.Card.{wordCount, productionAt, cardLength, ruleOf};
+ghost use Rattle.layout.specs.Card.{productionTable, productionAt, productionLength, cardLength, ruleOf};
 ghost use Rattle.layout.specs.Card.{wordProductionFits, indexFits, pairFits, kindFits, productionFits, productionsFit};
-ghost use Rattle.card.specs.Productions.{ruleFrom, FieldsOf};
+ghost use Rattle.card.specs.Productions.{ruleFrom, FieldsAt};
+ghost use Rattle.card.specs.View.{ViewOf};
 
 // The six bytes of a production.
 pub struct Fields {
@@ -21,27 +21,10 @@ pub struct Fields {
     pub last: u8,
 }
 
-pub fn fields_of(card: &[u8], m: usize) -> Fields
-    requires { ⌜ m < 256 ⌝ }
-    ensures { λ r. ⌜ FieldsOf (now (card .entry)) m r ⌝ }
+pub fn fields_at(card: &[u8], at: usize) -> Fields
+    requires { ⌜ at + productionLength ≤ length (now card) ⌝ }
+    ensures { λ r. ⌜ FieldsAt (now (card .entry)) at r ⌝ }
 {
-    let at = Card::of(card).production_at(m);
-    Fields {
-        kind: byte(card, at),
-        a: byte(card, at + 1),
-        b: byte(card, at + 2),
-        c: byte(card, at + 3),
-        g: byte(card, at + 4),
-        last: byte(card, at + 5),
-    }
-}
-
-// The same within a card whose count of words is at hand.
-pub fn fields_in(card: &[u8], words: usize, m: usize) -> Fields
-    requires { ⌜ (words ≡ wordCount (now card)) × (productionAt (now card) m + 6 ≤ length (now card)) ⌝ }
-    ensures { λ r. ⌜ FieldsOf (now (card .entry)) m r ⌝ }
-{
-    let at = Card::WORD_TABLE + Card::ENTRY * words + Card::PRODUCTION * m;
     Fields {
         kind: card[at],
         a: card[at + 1],
@@ -52,7 +35,7 @@ pub fn fields_in(card: &[u8], words: usize, m: usize) -> Fields
     }
 }
 
-pub fn word_production_fits(card: &[u8], a: u8, b: u8, c: u8, g: u8) -> bool
+fn word_production_fits(card: &[u8], a: u8, b: u8, c: u8, g: u8) -> bool
     ensures { λ r. ⌜ r ≡ wordProductionFits (now (card .entry)) a b c g ⌝ }
 {
     let counts = Card::of(card);
@@ -69,7 +52,7 @@ pub fn word_production_fits(card: &[u8], a: u8, b: u8, c: u8, g: u8) -> bool
 }
 
 // An index where one is due; kinds 3 and 4 keep the stack and have none.
-pub fn index_fits(card: &[u8], kind: u8, g: u8) -> bool
+fn index_fits(card: &[u8], kind: u8, g: u8) -> bool
     ensures { λ r. ⌜ r ≡ indexFits (now (card .entry)) kind g ⌝ }
 {
     if kind == 3 {
@@ -81,7 +64,7 @@ pub fn index_fits(card: &[u8], kind: u8, g: u8) -> bool
     within(1, Card::of(card).indices, g as usize)
 }
 
-pub fn pair_fits(card: &[u8], a: u8, b: u8, c: u8, index: bool) -> bool
+fn pair_fits(card: &[u8], a: u8, b: u8, c: u8, index: bool) -> bool
     ensures { λ r. ⌜ r ≡ pairFits (now (card .entry)) a b c index ⌝ }
 {
     let count = Card::of(card).nonterminals;
@@ -97,7 +80,7 @@ pub fn pair_fits(card: &[u8], a: u8, b: u8, c: u8, index: bool) -> bool
     index
 }
 
-pub fn kind_fits(card: &[u8], kind: u8, a: u8, b: u8, c: u8, g: u8) -> bool
+fn kind_fits(card: &[u8], kind: u8, a: u8, b: u8, c: u8, g: u8) -> bool
     ensures { λ r. ⌜ r ≡ kindFits (now (card .entry)) kind a b c g ⌝ }
 {
     if 6 < kind {
@@ -109,26 +92,26 @@ pub fn kind_fits(card: &[u8], kind: u8, a: u8, b: u8, c: u8, g: u8) -> bool
     pair_fits(card, a, b, c, index_fits(card, kind, g))
 }
 
-pub fn production_fits(card: &[u8], words: usize, m: usize) -> bool
-    requires { ⌜ (words ≡ wordCount (now card)) × (productionAt (now card) m + 6 ≤ length (now card)) ⌝ }
+fn production_fits(card: &[u8], table: usize, m: usize) -> bool
+    requires { ⌜ (table ≡ productionTable (now card)) × (productionAt (now card) m + productionLength ≤ length (now card)) ⌝ }
     ensures { λ r. ⌜ r ≡ productionFits (now (card .entry)) m ⌝ }
 {
-    let f = fields_in(card, words, m);
+    let f = fields_at(card, table + Card::PRODUCTION * m);
     if f.last != 0 {
         return false;
     }
     kind_fits(card, f.kind, f.a, f.b, f.c, f.g)
 }
 
-pub fn productions_fit(card: &[u8]) -> bool
-    requires { ⌜ cardLength (now card) ≤ length (now card) ⌝ }
+pub fn productions_fit(card: &[u8], view: Card) -> bool
+    requires { ⌜ ViewOf (now card) view × (cardLength (now card) ≤ length (now card)) ⌝ }
     ensures { λ r. ⌜ r ≡ productionsFit (now (card .entry)) ⌝ }
 {
-    let count = Card::of(card).productions;
-    let words = Card::of(card).words;
+    let count = view.productions;
+    let table = view.production_table();
     let mut m = 0;
     while m < count {
-        if !production_fits(card, words, m) {
+        if !production_fits(card, table, m) {
             return false;
         }
         m += 1;

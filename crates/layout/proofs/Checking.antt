@@ -15,17 +15,13 @@ use Rattle.grammar.proofs.StandsLaws.{none-some, some-same}
 use Rattle.grammar.proofs.PlanTest.{passes-sound, passes-complete}
 use Rattle.grammar.proofs.PlanSize.{derivation-length}
 use Rattle.grammar.proofs.Existence.{plan-derivation}
-use Rattle.layout.specs.Bytes.{check}
 use Rattle.layout.specs.Card.{grammarOf}
 use Rattle.layout.specs.Line.{numbersOf}
 use Rattle.layout.specs.Steps.{planBytes, stepsOf, andStep, planSteps}
-use Rattle.layout.specs.Answers.{inputNumber, wordsIn, lineTest, HasDerivation, planPasses, checkNumber}
+use Rattle.layout.specs.Answers.{inputNumber, wordsIn, lineTest, Derives, HasDerivation, planPasses, checkNumber}
+use Rattle.layout.proofs.Accepting.{check-accepts, check-of-plan}
 use Rattle.layout.proofs.CardLaws.{card-one-sided}
 use Rattle.layout.proofs.Reading.{count-numbers}
-
--- The steps are a leftmost derivation of the line under the card.
-abbrev pub Derives : List ℕ → List ℕ → List PlanStep → Type 0
-Derives card line plan = LeftmostDerivation (grammarOf card) (Holds (lineTest card line)) (wordsIn line) plan
 
 pub steps-bytes : (plan : List PlanStep) → stepsOf (planBytes plan) ≡ some plan
 steps-bytes [] = refl
@@ -45,12 +41,6 @@ bytes-steps (p ∷ i ∷ k ∷ j ∷ bytes) e =
     let (rest, e₁, e₂) = and-some (planStep p i k j) (stepsOf bytes) e in
     ap (λ (l : List ℕ). p ∷ i ∷ k ∷ j ∷ l) (bytes-steps bytes e₁) ∙ sym (ap planBytes e₂)
 
--- Both of Check's tests, with the tests as variables.
-both : (a b : Bool) (x : ℕ) → (x ≡ 0 → a ≡ true) → check a x (check b 34 0) ≡ 0 → (a ≡ true) × (b ≡ true)
-both true true x f e = (refl, refl)
-both true false x f e = absurd (omega arith)
-both false b x f e = absurd (false≢true (f e))
-
 passing : (card line : List ℕ) (o : Option (List PlanStep)) → planPasses card line o ≡ true
     → (plan : List PlanStep) × (o ≡ some plan) × Derives card line plan
 passing card line none e = absurd (false≢true e)
@@ -60,16 +50,16 @@ passing card line (some plan) e = (plan, refl, passes-sound (grammarOf card) (li
 pub check-sound : (card line bytes : List ℕ) → checkNumber card line bytes ≡ 0
     → (inputNumber card line ≡ 0) × (plan : List PlanStep) × (bytes ≡ planBytes plan) × Derives card line plan
 check-sound card line bytes e =
-    let x = inputNumber card line in
-    let (e₁, e₂) = both (eqb x 0) (planPasses card line (stepsOf bytes)) x (eq-eqb x 0) e in
+    let (e₁, e₂) = check-accepts card line bytes e in
     let (plan, e₃, d) = passing card line (stepsOf bytes) e₂ in
-    (eqb-true x 0 e₁, plan, bytes-steps bytes e₃, d)
+    (e₁, plan, bytes-steps bytes e₃, d)
 
 -- And every such derivation passes: so does what Read writes.
 pub check-complete : (card line : List ℕ) (plan : List PlanStep) → inputNumber card line ≡ 0 → Derives card line plan
     → checkNumber card line (planBytes plan) ≡ 0
 check-complete card line plan e d =
-    simp (eq-eqb _ _ e, steps-bytes plan, passes-complete (grammarOf card) (lineTest card line) (wordsIn line) d)
+    check-of-plan card line (planBytes plan) e
+    ∙ rw (steps-bytes plan, passes-complete (grammarOf card) (lineTest card line) (wordsIn line) d)
 
 -- A plan that passes has 2n − 1 steps, and the line a derivation.
 pub derives-length : (card line : List ℕ) {plan : List PlanStep} → Derives card line plan → length plan ≡ planSteps (wordsIn line)

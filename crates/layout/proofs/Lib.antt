@@ -1,3 +1,7 @@
+pub mod TestLaws
+pub mod RefusalLaws
+pub mod ViewLaws
+pub mod Accepting
 pub mod CardLaws
 pub mod Reading
 pub mod Checking

@@ -12,61 +12,13 @@ use Rattle.grammar.specs.ItemList.{item, among}
 use Rattle.grammar.specs.Items.{bare}
 use Rattle.grammar.specs.Pairs.{Pair}
 use Rattle.grammar.proofs.PairsCount.{pairs-half}
-use Rattle.layout.specs.Bytes.{check, allBytes}
-use Rattle.layout.specs.Card.{markFits, countsFit, lengthsFit, entriesFit, entriesDiffer, productionsFit, cardNumber}
-use Rattle.layout.specs.Line.{wordsOf, isLineByte, mostWords, allKnown, lineNumber}
 use Rattle.layout.specs.Records.{capacity}
 use Rattle.layout.specs.Steps.{planRoom, planSteps, stepsOf}
 use Rattle.layout.specs.Answers.{inputNumber, wordsIn, derivable, ReadAnswer, refusal, found, readAnswer}
 use Rattle.layout.specs.Answers.{planPasses, checkNumber, planPairs, PairsAnswer, pairsWithin, pairsAnswer}
+use Rattle.layout.proofs.Accepting.{accepted-line, input-small, check-small}
 use Rattle.layout.proofs.CardLaws.{card-one-sided}
 use Rattle.layout.proofs.Checking.{check-sound, steps-bytes}
-
--- An accepted line has 1 to 24 words.
-passed-test : (b : Bool) (x y : ℕ) → (x ≡ 0 → ⊥) → check b x y ≡ 0 → (b ≡ true) × (y ≡ 0)
-passed-test true x y n e = (refl, e)
-passed-test false x y n e = absurd (n e)
-
-pub input-words : (card line : List ℕ) → inputNumber card line ≡ 0 → (1 ≤ wordsIn line) × (wordsIn line ≤ 24)
-input-words card line e =
-    let (e₁, d₁) = go (eqb (cardNumber card) 0) refl e in
-    let (e₂, d₂) = passed-test (allBytes isLineByte line) 22 _ (omega arith) d₁ in
-    let (e₃, d₃) = passed-test (leb 1 (wordsIn line)) 21 _ (omega arith) d₂ in
-    let (e₄, d₄) = passed-test (leb (wordsIn line) 24) 23 _ (omega arith) d₃ in
-    (leb-true 1 (wordsIn line) e₃, leb-true (wordsIn line) 24 e₄)
-  where
-    go : (b : Bool) → eqb (cardNumber card) 0 ≡ b → check b (cardNumber card) (lineNumber card line) ≡ 0
-        → (b ≡ true) × (lineNumber card line ≡ 0)
-    go true d e = (refl, e)
-    go false d e = absurd (false≢true (sym d ∙ eq-eqb (cardNumber card) 0 e))
-
--- Refusals are at most 35.
-at-most : (b : Bool) (x y m : ℕ) → x ≤ m → y ≤ m → check b x y ≤ m
-at-most true x y m h k = k
-at-most false x y m h k = h
-
-card-small : (card : List ℕ) → cardNumber card ≤ 24
-card-small card =
-    at-most (markFits card) 11 _ 24 (omega arith)
-    (at-most (countsFit card) 12 _ 24 (omega arith)
-    (at-most (lengthsFit card) 13 _ 24 (omega arith)
-    (at-most (entriesFit card) 14 _ 24 (omega arith)
-    (at-most (entriesDiffer card) 15 _ 24 (omega arith) (at-most (productionsFit card) 16 0 24 (omega arith) (omega arith))))))
-
-line-small : (card line : List ℕ) → lineNumber card line ≤ 24
-line-small card line =
-    let words = wordsOf line in
-    at-most (allBytes isLineByte line) 22 _ 24 (omega arith)
-    (at-most (leb 1 (length words)) 21 _ 24 (omega arith)
-    (at-most (leb (length words) mostWords) 23 _ 24 (omega arith) (at-most (allKnown card words) 24 0 24 (omega arith) (omega arith))))
-
-input-small : (card line : List ℕ) → inputNumber card line ≤ 24
-input-small card line = at-most (eqb (cardNumber card) 0) _ _ 24 (card-small card) (line-small card line)
-
-check-small : (card line plan : List ℕ) → checkNumber card line plan ≤ 35
-check-small card line plan =
-    at-most (eqb (inputNumber card line) 0) _ _ 35 (omega (arith, input-small card line))
-    (at-most (planPasses card line (stepsOf plan)) 34 0 35 (omega arith) (omega arith))
 
 -- Read.
 pub record ReadFits (r : ReadAnswer) : Type 0 where
@@ -95,7 +47,7 @@ read-fits card line chartRoom room =
     let n = wordsIn line in
     let all = derivable card line in
     answer-fits (eqb x 0) (ltb room (planRoom n)) (ltb (capacity chartRoom) (length all)) (among (item 0 0 n bare) all) x n (length all)
-    (omega (arith, input-small card line)) (λ e. input-words card line (eqb-true x 0 e) .1)
+    (omega (arith, input-small card line)) (λ e. accepted-line card line (eqb-true x 0 e) .most-words)
     (λ e. omega (arith, ltb-false (capacity chartRoom) (length all) e))
 
 -- Pairs: a plan of n words that passes has at most (n − 1) / 2.
@@ -107,7 +59,7 @@ passing-pairs-half card line bytes e =
 
 pairs-few : (card line bytes : List ℕ) → checkNumber card line bytes ≡ 0 → length (planPairs card (stepsOf bytes)) ≤ 47
 pairs-few card line bytes e =
-    omega (arith, passing-pairs-half card line bytes e, input-words card line (check-sound card line bytes e .0) .1)
+    omega (arith, passing-pairs-half card line bytes e, accepted-line card line (check-sound card line bytes e .0) .most-words)
 
 pub record PairsFit (r : PairsAnswer) : Type 0 where
   pub number : r .number ≤ 35

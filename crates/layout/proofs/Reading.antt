@@ -15,23 +15,19 @@ use Rattle.grammar.specs.ItemList.{item, items, among}
 use Rattle.grammar.proofs.InputLaws.{words-below}
 use Rattle.grammar.proofs.ItemListExact.{items-sound, items-complete, among-true, among-mem}
 use Rattle.grammar.proofs.Existence.{derivation-item, item-derivation}
-use Rattle.layout.specs.Bytes.{check, allBytes}
-use Rattle.layout.specs.Card.{grammarOf, markFits, countsFit, lengthsFit, entriesFit, entriesDiffer, productionsFit, cardNumber}
-use Rattle.layout.specs.Line.{wordsOf, numbersOf, numberOfWord, orZero, isLineByte, mostWords, allKnown, lineNumber}
+use Rattle.layout.specs.Card.{grammarOf}
+use Rattle.layout.specs.Line.{wordsOf, numbersOf, numberOfWord, orZero}
 use Rattle.layout.specs.Records.{capacity}
 use Rattle.layout.specs.Steps.{planRoom, planSteps}
-use Rattle.layout.specs.Answers.{inputNumber, wordsIn, lineTest, derivable, ReadAnswer, refusal, found, chartAnswer, readAnswer, RoomEnough, HasDerivation}
+use Rattle.layout.specs.Answers.{inputNumber, wordsIn, lineTest, derivable, startFound, HasDerivation}
+use Rattle.layout.specs.Answers.{ReadAnswer, refusal, found, chartAnswer, readAnswer, RoomEnough}
+use Rattle.layout.proofs.Accepting.{input-other}
 
 pub count-numbers : (card line : List ℕ) → length (numbersOf card line) ≡ wordsIn line
 count-numbers card line = length-map (wordsOf line) (λ word. orZero (numberOfWord card word))
 
 pub line-below : (card line : List ℕ) → Below (Holds (lineTest card line)) (wordsIn line)
 line-below card line = subst (Below (Holds (lineTest card line))) (count-numbers card line) (words-below (numbersOf card line))
-
--- Is the item of the start over the whole line derivable?
-
-abbrev pub startFound : List ℕ → List ℕ → Bool
-startFound card line = among (item 0 0 (wordsIn line) bare) (derivable card line)
 
 pub found-derivation : (card line : List ℕ) → startFound card line ≡ true → HasDerivation card line
 found-derivation card line e =
@@ -48,33 +44,6 @@ derivation-found card line d =
     let i = subst (λ (m : ℕ). Derived g (Holds (lineTest card line)) 0 0 m bare) (count-numbers card line)
     (derivation-item g (numbersOf card line) d) in
     among-mem (items-complete g (lineTest card line) n (line-below card line) 0 0 n bare i)
-
--- No refusal of a card or a line is 25.
-abbrev Other : ℕ → Type 0
-Other x = x ≡ 25 → ⊥
-
-other : (x : ℕ) (b : Bool) {y : ℕ} → Other x → Other y → Other (check b x y)
-other x true h k = k
-other x false h k = h
-
-card-other : (card : List ℕ) → Other (cardNumber card)
-card-other card =
-    other 11 (markFits card) (omega arith)
-    (other 12 (countsFit card) (omega arith)
-    (other 13 (lengthsFit card) (omega arith)
-    (other 14 (entriesFit card) (omega arith)
-    (other 15 (entriesDiffer card) (omega arith) (other 16 (productionsFit card) {y = 0} (omega arith) (omega arith))))))
-
-line-other : (card line : List ℕ) → Other (lineNumber card line)
-line-other card line =
-    let words = wordsOf line in
-    other 22 (allBytes isLineByte line) (omega arith)
-    (other 21 (leb 1 (length words)) (omega arith)
-    (other 23 (leb (length words) mostWords) (omega arith)
-    (other 24 (allKnown card words) {y = 0} (omega arith) (omega arith))))
-
-input-other : (card line : List ℕ) → Other (inputNumber card line)
-input-other card line = other (cardNumber card) (eqb (cardNumber card) 0) (card-other card) (line-other card line)
 
 -- What an answer with a number v says that is neither 32 nor a refusal of the card or the line: every refusal before the chart's is
 -- ruled out.

@@ -4,7 +4,7 @@ use Prim.Native.Nat.{ℕ}
 use mathlib.Core.Path.{_≡_, refl}
 use mathlib.Core.List.{List, [], _∷_}
 use lib.ListN.{length}
-use Rattle.layout.specs.Card.{cardNumber}
+use Rattle.layout.specs.Card.{headerLength, cardNumber}
 use Rattle.layout.specs.Steps.{pairsBytes}
 use Rattle.layout.specs.Answers.{readAnswer, ReadAnswer, checkNumber, pairsAnswer, PairsAnswer}
 use Rattle.layout.specs.Tomato.{tomatoCard, coirTakesMild, coirWoolTakesMildRich, coirWoolTakesRichMild, coirCoirTakesMildMild, coirCoirTakesMild, takesAlone, emptyLine, coirTakesCapital, coirGivesMild, coirTimes25, planOne, planTwo, planFour}
@@ -52,4 +52,5 @@ table :
     ∷ row (23 ∷ 0 ∷ 0 ∷ 0 ∷ []) 23 23 []
     ∷ [])
     ((0 ∷ 3 ∷ 5 ∷ 5 ∷ []) ∷ (31 ∷ 0 ∷ 0 ∷ 0 ∷ []) ∷ (32 ∷ 0 ∷ 0 ∷ 0 ∷ []) ∷ (32 ∷ 0 ∷ 0 ∷ 0 ∷ []) ∷ [])
+unfolding headerLength
 table = refl

@@ -15,15 +15,18 @@ use Rattle.grammar.specs.ItemList.{Item, item, items, among}
 use Rattle.grammar.specs.Plan.{PlanStep, LeftmostDerivation, passes}
 use Rattle.grammar.specs.Pairs.{Pair, pairsOf}
 use Rattle.grammar.specs.Chart.{Record, IsChart}
-use Rattle.layout.specs.Bytes.{check}
-use Rattle.layout.specs.Card.{grammarOf, cardNumber, wordCount, entryAt, spelling, spellingLength}
-use Rattle.layout.specs.Line.{wordsOf, numbersOf, lineNumber}
+use Rattle.layout.specs.Refusals.{Refusal, unless, firstRefusal}
+use Rattle.layout.specs.Card.{grammarOf, cardRefusals, wordCount, entryAt, spelling, spellingLength}
+use Rattle.layout.specs.Line.{wordsOf, numbersOf, lineRefusals}
 use Rattle.layout.specs.Records.{chartBytes, recordLength, capacity}
 use Rattle.layout.specs.Steps.{planBytes, stepsOf, planSteps, planRoom, pairsBytes}
 
 -- Card refusals come before the line's.
+abbrev pub inputRefusals : List ℕ → List ℕ → List Refusal
+inputRefusals card line = cardRefusals card ++ lineRefusals card line
+
 abbrev pub inputNumber : List ℕ → List ℕ → ℕ
-inputNumber card line = check (eqb (cardNumber card) 0) (cardNumber card) (lineNumber card line)
+inputNumber card line = firstRefusal (inputRefusals card line)
 
 -- An accepted line as the theory reads it: how many words, which number at which place, and the derivable items.
 abbrev pub wordsIn : List ℕ → ℕ
@@ -67,6 +70,14 @@ pub record RoomEnough (card line : List ℕ) (chartRoom room : ℕ) : Type 0 whe
   pub planFits : planRoom (wordsIn line) ≤ room
   pub chartFits : length (derivable card line) ≤ capacity chartRoom
 
+-- Is the item of the start over the whole line derivable?
+abbrev pub startFound : List ℕ → List ℕ → Bool
+startFound card line = among (item 0 0 (wordsIn line) bare) (derivable card line)
+
+-- The steps are a leftmost derivation of the line under the card.
+abbrev pub Derives : List ℕ → List ℕ → List PlanStep → Type 0
+Derives card line plan = LeftmostDerivation (grammarOf card) (Holds (lineTest card line)) (wordsIn line) plan
+
 -- The line has a derivation under the card.
 abbrev pub HasDerivation : List ℕ → List ℕ → Type 0
 HasDerivation card line = Derivation (grammarOf card) (numbersOf card line)
@@ -90,7 +101,7 @@ ChartAfter card line untouched before after = after ≡ before
 -- The plan room after Read: a leftmost derivation of the line where it was read, and untouched otherwise.
 abbrev pub PlanAfter : List ℕ → List ℕ → Bool → List ℕ → List ℕ → Type 0
 PlanAfter card line true before after =
-    (plan : List PlanStep) × LeftmostDerivation (grammarOf card) (Holds (lineTest card line)) (wordsIn line) plan
+    (plan : List PlanStep) × Derives card line plan
     × (after ≡ planBytes plan ++ drop (4 * length plan) before)
 PlanAfter card line false before after = after ≡ before
 
@@ -100,8 +111,7 @@ planPasses card line none = false
 planPasses card line (some plan) = passes (grammarOf card) (lineTest card line) (wordsIn line) plan
 
 abbrev pub checkNumber : List ℕ → List ℕ → List ℕ → ℕ
-checkNumber card line plan =
-    check (eqb (inputNumber card line) 0) (inputNumber card line) (check (planPasses card line (stepsOf plan)) 34 0)
+checkNumber card line plan = firstRefusal (inputRefusals card line ++ (unless (planPasses card line (stepsOf plan)) 34 ∷ []))
 
 -- Pairs: the pairs of a plan that passes, and 33 where the room is too short for them.
 pub record PairsAnswer : Type 0 where
@@ -132,12 +142,12 @@ pub record NameAnswer : Type 0 where
   pub size : ℕ
 
 abbrev pub nameNumber : List ℕ → ℕ → ℕ
-nameNumber card word = check (eqb (cardNumber card) 0) (cardNumber card) (check (ltb word (wordCount card)) 35 0)
+nameNumber card word = firstRefusal (cardRefusals card ++ (unless (ltb word (wordCount card)) 35 ∷ []))
 
 abbrev pub nameAnswer : List ℕ → ℕ → NameAnswer
 nameAnswer card word =
     cond (eqb (nameNumber card word) 0)
-    (record { number = 0; offset = entryAt word + 1; size = spellingLength card word })
+    (record { number = 0; offset = entryAt card word + 1; size = spellingLength card word })
     (record { number = nameNumber card word; offset = 0; size = 0 })
 
 abbrev pub namePart : List ℕ → ℕ → List ℕ

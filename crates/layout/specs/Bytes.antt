@@ -9,8 +9,8 @@ use lib.ListN.{getD}
 abbrev pub byteAt : List ℕ → ℕ → ℕ
 byteAt bytes k = getD bytes k 0
 
-abbrev pub wordAt : List ℕ → ℕ → ℕ
-wordAt bytes k = byteAt bytes k + 256 * byteAt bytes (k + 1)
+abbrev pub number16At : List ℕ → ℕ → ℕ
+number16At bytes k = byteAt bytes k + 256 * byteAt bytes (k + 1)
 
 abbrev pub lowByte : ℕ → ℕ
 lowByte x = x % 256
@@ -41,8 +41,3 @@ allBelow (suc n) test = test n && allBelow n test
 abbrev pub counted : ℕ → ℕ → List ℕ
 counted k zero = []
 counted k (suc n) = k ∷ counted (suc k) n
-
--- `check holds number others`: the refusal where its condition for passing does not hold, and what the others say where it does.
-abbrev pub check : Bool → ℕ → ℕ → ℕ
-check true number others = others
-check false number others = number

@@ -5,14 +5,28 @@ use mathlib.Core.List.{List, [], _∷_, map}
 use lib.Dec.{eqb, leb, ltb}
 use lib.ListN.{length, take, drop}
 use Rattle.grammar.specs.Rewriting.{Rule, Lexical, Spine, Action, Take, Keep, Give}
-use Rattle.layout.specs.Bytes.{byteAt, wordAt, isLetter, sameBytes, allBytes, allBelow, counted, check}
+use Rattle.layout.specs.Bytes.{byteAt, number16At, isLetter, sameBytes, allBytes, allBelow, counted}
+use Rattle.layout.specs.Refusals.{Refusal, unless, firstRefusal}
 
--- The header: the mark "LIG1", four counts, two offsets.
+-- The limits of the four counts.
+abbrev pub maxNonterminals : ℕ
+maxNonterminals = 16
+
+abbrev pub maxWords : ℕ
+maxWords = 32
+
+abbrev pub maxIndices : ℕ
+maxIndices = 8
+
+abbrev pub maxProductions : ℕ
+maxProductions = 64
+
+-- The header: the mark "LIG1", four counts, two offsets. So many bytes every header has.
 abbrev pub mark : List ℕ
 mark = 0x4C ∷ 0x49 ∷ 0x47 ∷ 0x31 ∷ []
 
-abbrev pub headerLength : ℕ
-headerLength = 12
+abbrev pub leastHeader : ℕ
+leastHeader = 12
 
 abbrev pub nonterminalCount : List ℕ → ℕ
 nonterminalCount card = byteAt card 4
@@ -26,28 +40,44 @@ indexCount card = byteAt card 6
 abbrev pub productionCount : List ℕ → ℕ
 productionCount card = byteAt card 7
 
--- Where the tables start, and where the card ends.
-abbrev pub wordTable : ℕ
-wordTable = 12
+-- Where things stand on a card: everything goes by the length of its header. Proofs know of that length only what
+-- proofs/ViewLaws.antt says, so that a card with another header is a change of this definition and of those laws.
+unfoldable pub headerLength : List ℕ → ℕ
+headerLength card = leastHeader
+
+abbrev pub entryLength : ℕ
+entryLength = 12
+
+abbrev pub productionLength : ℕ
+productionLength = 6
+
+abbrev pub wordTable : List ℕ → ℕ
+wordTable card = headerLength card
+
+abbrev pub entryAt : List ℕ → ℕ → ℕ
+entryAt card v = wordTable card + entryLength * v
 
 abbrev pub productionTable : List ℕ → ℕ
-productionTable card = 12 + 12 * wordCount card
+productionTable card = entryAt card (wordCount card)
+
+abbrev pub productionAt : List ℕ → ℕ → ℕ
+productionAt card m = productionTable card + productionLength * m
 
 abbrev pub cardLength : List ℕ → ℕ
-cardLength card = 12 + 12 * wordCount card + 6 * productionCount card
+cardLength card = productionAt card (productionCount card)
 
 -- A word entry: a length byte, the spelling, and zeros up to 12 bytes.
-abbrev pub entryAt : ℕ → ℕ
-entryAt v = wordTable + 12 * v
+abbrev pub mostLetters : ℕ
+mostLetters = 11
 
 abbrev pub entryOf : List ℕ → ℕ → List ℕ
-entryOf card v = take 12 (drop (entryAt v) card)
+entryOf card v = take entryLength (drop (entryAt card v) card)
 
 abbrev pub spellingLength : List ℕ → ℕ → ℕ
-spellingLength card v = byteAt card (entryAt v)
+spellingLength card v = byteAt card (entryAt card v)
 
 abbrev pub spelling : List ℕ → ℕ → List ℕ
-spelling card v = take (spellingLength card v) (drop (entryAt v + 1) card)
+spelling card v = take (spellingLength card v) (drop (entryAt card v + 1) card)
 
 abbrev pub spellings : List ℕ → List (List ℕ)
 spellings card = map (spelling card) (counted 0 (wordCount card))
@@ -56,9 +86,6 @@ abbrev pub padding : List ℕ → ℕ → List ℕ
 padding card v = drop (1 + spellingLength card v) (entryOf card v)
 
 -- A production: six bytes, kind, A, B, C, g and 0.
-abbrev pub productionAt : List ℕ → ℕ → ℕ
-productionAt card m = productionTable card + 6 * m
-
 -- The table of kinds; a card that has passed its checks has no kind above 6.
 abbrev pub ruleOf : ℕ → ℕ → ℕ → ℕ → ℕ → Rule
 ruleOf kind A B C g =
@@ -79,7 +106,7 @@ grammarOf card = map (production card) (counted 0 (productionCount card))
 
 -- What refusal 11 asks: 12 bytes, and the mark.
 abbrev pub markFits : List ℕ → Bool
-markFits card = leb headerLength (length card) && sameBytes (take 4 card) mark
+markFits card = leb leastHeader (length card) && sameBytes (take 4 card) mark
 
 -- 12: the counts within their limits.
 abbrev pub within : ℕ → ℕ → ℕ → Bool
@@ -87,18 +114,20 @@ within low high x = leb low x && leb x high
 
 abbrev pub countsFit : List ℕ → Bool
 countsFit card =
-    within 1 16 (nonterminalCount card)
-    && (within 1 32 (wordCount card) && (within 0 8 (indexCount card) && within 1 64 (productionCount card)))
+    within 1 maxNonterminals (nonterminalCount card)
+    && (within 1 maxWords (wordCount card)
+    && (within 0 maxIndices (indexCount card) && within 1 maxProductions (productionCount card)))
 
 -- 13: the offsets and the length.
 abbrev pub lengthsFit : List ℕ → Bool
 lengthsFit card =
-    eqb (wordAt card 8) wordTable && (eqb (wordAt card 10) (productionTable card) && eqb (length card) (cardLength card))
+    eqb (number16At card 8) (wordTable card)
+    && (eqb (number16At card 10) (productionTable card) && eqb (length card) (cardLength card))
 
 -- 14: each word entry's layout.
 abbrev pub entryFits : List ℕ → ℕ → Bool
 entryFits card v =
-    within 1 11 (spellingLength card v) && (allBytes isLetter (spelling card v) && allBytes (eqb 0) (padding card v))
+    within 1 mostLetters (spellingLength card v) && (allBytes isLetter (spelling card v) && allBytes (eqb 0) (padding card v))
 
 abbrev pub entriesFit : List ℕ → Bool
 entriesFit card = allBelow (wordCount card) (entryFits card)
@@ -135,12 +164,16 @@ productionFits card m = let at = productionAt card m in
 abbrev pub productionsFit : List ℕ → Bool
 productionsFit card = allBelow (productionCount card) (productionFits card)
 
--- The refusals in their order, each over the whole card; 0 where the card is accepted.
+-- The refusals in their order, each over the whole card; the number is 0 where the card is accepted.
+abbrev pub cardRefusals : List ℕ → List Refusal
+cardRefusals card =
+    unless (markFits card) 11
+    ∷ unless (countsFit card) 12
+    ∷ unless (lengthsFit card) 13
+    ∷ unless (entriesFit card) 14
+    ∷ unless (entriesDiffer card) 15
+    ∷ unless (productionsFit card) 16
+    ∷ []
+
 abbrev pub cardNumber : List ℕ → ℕ
-cardNumber card =
-    check (markFits card) 11
-    (check (countsFit card) 12
-    (check (lengthsFit card) 13
-    (check (entriesFit card) 14
-    (check (entriesDiffer card) 15
-    (check (productionsFit card) 16 0)))))
+cardNumber card = firstRefusal (cardRefusals card)

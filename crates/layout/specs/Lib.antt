@@ -1,4 +1,5 @@
 pub mod Bytes
+pub mod Refusals
 pub mod Card
 pub mod Line
 pub mod Records

@@ -5,7 +5,8 @@ use mathlib.Core.List.{List, [], _∷_, _++_, map}
 use mathlib.Core.Option.{Option, none, some}
 use lib.Dec.{eqb, leb}
 use lib.ListN.{length}
-use Rattle.layout.specs.Bytes.{isLetter, sameBytes, allBytes, check}
+use Rattle.layout.specs.Bytes.{isLetter, sameBytes, allBytes}
+use Rattle.layout.specs.Refusals.{Refusal, unless, firstRefusal}
 use Rattle.layout.specs.Card.{spellings}
 
 abbrev pub space : ℕ
@@ -23,7 +24,7 @@ wordsFrom so (b ∷ line) = elim (eqb b space) [ true ↦ ended so (wordsFrom []
 abbrev pub wordsOf : List ℕ → List (List ℕ)
 wordsOf line = wordsFrom [] line
 
--- The number of a word: the placeOf of the entry that equals it byte by byte.
+-- The number of a word: the place of the entry that equals it byte by byte.
 abbrev pub placeOf : List ℕ → ℕ → List (List ℕ) → Option ℕ
 placeOf word v [] = none
 placeOf word v (spelled ∷ others) = elim (sameBytes word spelled) [ true ↦ some v | false ↦ placeOf word (suc v) others ]
@@ -54,10 +55,14 @@ isLineByte b = isLetter b || eqb b space
 abbrev pub mostWords : ℕ
 mostWords = 24
 
--- The refusals in their order, each over the whole line; 0 where the line has 1 to 24 known words.
+-- The refusals in their order, each over the whole line; the number is 0 where the line has 1 to 24 known words.
+abbrev pub lineRefusals : List ℕ → List ℕ → List Refusal
+lineRefusals card line = let words = wordsOf line in
+    unless (allBytes isLineByte line) 22
+    ∷ unless (leb 1 (length words)) 21
+    ∷ unless (leb (length words) mostWords) 23
+    ∷ unless (allKnown card words) 24
+    ∷ []
+
 abbrev pub lineNumber : List ℕ → List ℕ → ℕ
-lineNumber card line = let words = wordsOf line in
-    check (allBytes isLineByte line) 22
-    (check (leb 1 (length words)) 21
-    (check (leb (length words) mostWords) 23
-    (check (allKnown card words) 24 0)))
+lineNumber card line = firstRefusal (lineRefusals card line)

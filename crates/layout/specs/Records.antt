@@ -7,7 +7,7 @@ use Rattle.grammar.specs.Lists.{concatMap}
 use Rattle.grammar.specs.Items.{Foot, bare, foot}
 use Rattle.grammar.specs.ItemList.{item}
 use Rattle.grammar.specs.Chart.{Record, recorded}
-use Rattle.layout.specs.Bytes.{byteAt, wordAt, lowByte, highByte, counted}
+use Rattle.layout.specs.Bytes.{byteAt, number16At, lowByte, highByte, counted}
 
 -- A, γ, i, j, B (255 for none), p, q, production; the positions of side, dependent and continuation, low byte first; two zeros.
 abbrev pub recordBytes : Record → List ℕ
@@ -22,17 +22,17 @@ abbrev pub chartBytes : List Record → List ℕ
 chartBytes c = concatMap recordBytes c
 
 -- The same read back: γ = 0 is no foot. The record at position m, and the first count of them.
-abbrev pub footOf : ℕ → ℕ → ℕ → ℕ → Foot
-footOf γ B p q = cond (eqb γ 0) bare (foot γ B p q)
+abbrev pub asFoot : ℕ → ℕ → ℕ → ℕ → Foot
+asFoot γ B p q = cond (eqb γ 0) bare (foot γ B p q)
 
 abbrev pub footThere : List ℕ → ℕ → Foot
 footThere bytes m = let at = 16 * m in
-    footOf (byteAt bytes (at + 1)) (byteAt bytes (at + 4)) (byteAt bytes (at + 5)) (byteAt bytes (at + 6))
+    asFoot (byteAt bytes (at + 1)) (byteAt bytes (at + 4)) (byteAt bytes (at + 5)) (byteAt bytes (at + 6))
 
 abbrev pub recordAt : List ℕ → ℕ → Record
 recordAt bytes m = let at = 16 * m in
     recorded (item (byteAt bytes at) (byteAt bytes (at + 2)) (byteAt bytes (at + 3)) (footThere bytes m))
-    (byteAt bytes (at + 7)) (wordAt bytes (at + 8)) (wordAt bytes (at + 10)) (wordAt bytes (at + 12))
+    (byteAt bytes (at + 7)) (number16At bytes (at + 8)) (number16At bytes (at + 10)) (number16At bytes (at + 12))
 
 abbrev pub chartIn : List ℕ → ℕ → List Record
 chartIn bytes count = map (recordAt bytes) (counted 0 count)

@@ -8,8 +8,9 @@ use borrow.Author.Needs.{needs}
 use Prim.Native.Nat.{ℕ}
 use denote.Ref.{now}
 use Rattle.layout.specs.Card.{markFits, countsFit, lengthsFit, entriesFit, entriesDiffer}
-use Rattle.card.proofs.Laws.{refused, passed}
-use Rattle.card.proofs.Accepted.{counts-same, length-fits, number-11, number-12, number-13, number-14, number-15, number-16, number-0}
+use Rattle.layout.proofs.TestLaws.{refused, passed}
+use Rattle.layout.proofs.Accepting.{length-fits}
+use Rattle.card.proofs.Accepted.{header-there, counts-same, number-11, number-12, number-13, number-14, number-15, number-16, number-0}
 use Rattle.card.proofs.card_number.Statement.{statement}
 use Rattle.card.proofs.card_number.Tie as tie
 
@@ -58,7 +59,8 @@ returns-2 c =
     (refused (c .before .counts-fit .ensures ∙ counts-same (c .before .before .of .ensures)) (c .if2 .taken))
 
 lengths-fit-requires : tie.Need-lengths-fit-requires
-lengths-fit-requires c κs = search needs
+lengths-fit-requires c κs =
+    (c .before .before .of .ensures, header-there (card-2 c) (marked (c .before .before .before)))
 
 returns-3 : tie.Need-returns-3
 returns-3 c =

@@ -5,8 +5,8 @@ use mathlib.Core.Path.{_≡_, sym, _∙_}
 use borrow.Author.Needs.{needs}
 use denote.Ref.{now}
 use Rattle.layout.specs.Answers.{nameNumber}
-use Rattle.layout.specs.Card.{spellingLength}
-use Rattle.card.proofs.Accepted.{Known, known-word, size-at, name-part, no-part}
+use Rattle.layout.specs.Card.{entryAt, spellingLength}
+use Rattle.card.proofs.Accepted.{Known, known-word, view-entry, size-at, name-part, no-part}
 use Rattle.card.proofs.name.Statement.{statement}
 use Rattle.card.proofs.name.Tie as tie
 
@@ -17,12 +17,18 @@ zero c = sym (c .before .name-number .ensures) ∙ c .if1 .left
 known : (c : tie.Else1) → Known (now (c .before .before .before .args .card)) (c .before .before .before .args .word)
 known c = known-word (now (c .before .before .before .args .card)) (c .before .before .before .args .word) (zero c)
 
-size : (c : tie.After-wide) → let a = c .before .before .before .before .before .before .args in
+place : (c : tie.After-entry-at) → let a = c .before .before .before .before .before .args in
+    c .entry-at .result ≡ entryAt (now (a .card)) (a .word)
+place c =
+    let a = c .before .before .before .before .before .args in
+    c .entry-at .ensures ∙ view-entry (c .before .of .ensures) (a .word)
+
+size : (c : tie.After-wide) → let a = c .before .before .before .before .before .before .before .args in
     c .wide .result ≡ spellingLength (now (a .card)) (a .word)
 size c =
-    let a = c .before .before .before .before .before .before .args in
+    let a = c .before .before .before .before .before .before .before .args in
     let entry = c .before .before .entry-at in
-    size-at (now (a .card)) (a .word) (entry .result) (entry .ensures) (c .before .byte .ensures) (c .wide .ensures .0)
+    size-at (now (a .card)) (a .word) (entry .result) (place (c .before .before)) (c .before .byte .ensures) (c .wide .ensures .0)
 
 name-number-requires : tie.Need-name-number-requires
 name-number-requires c κs = search needs
@@ -36,13 +42,16 @@ returns c =
     no-part (now (a .card)) (a .word) λ e. c .before .if1 .taken (c .before .before .name-number .ensures ∙ e)
 
 entry-at-requires : tie.Need-entry-at-requires
-entry-at-requires c κs = let h = known c in omega arith
+entry-at-requires c κs = let h = known (c .before) in omega (arith, c .of .ensures .shortHeader)
+
+of-requires : tie.Need-of-requires
+of-requires c κs = search needs
 
 add-from : tie.Need-add-from
-add-from c = search needs
+add-from c = let h = known (c .before .before) in omega (arith, place c)
 
 add-to : tie.Need-add-to
-add-to c = search needs
+add-to c = let h = known (c .before .before) in omega (arith, place c)
 
 byte-requires : tie.Need-byte-requires
 byte-requires c κs = search needs
@@ -51,7 +60,7 @@ wide-requires : tie.Need-wide-requires
 wide-requires c κs = search needs
 
 add-to-2 : tie.Need-add-to-2
-add-to-2 c = let h = known (c .before .before .before) in omega arith
+add-to-2 c = let h = known (c .before .before .before .before) in let n = size c in omega (arith, place (c .before .before))
 
 sub-result : tie.Need-sub-result
 sub-result c = search needs
@@ -60,14 +69,15 @@ part-result-start : tie.Need-part-result-start
 part-result-start c = search needs
 
 part-result-end : tie.Need-part-result-end
-part-result-end c = let h = known (c .before .before .before) in let n = size c in omega arith
+part-result-end c = let h = known (c .before .before .before .before) in let n = size c in omega (arith, place (c .before .before))
 
 returns-2 : tie.Need-returns-2
 returns-2 c =
-    let a = c .before .before .before .before .before .before .before .args in
+    let a = c .before .before .before .before .before .before .before .before .args in
     let entry = c .before .before .before .entry-at in
     let read = c .before in
-    name-part (now (a .card)) (a .word) (entry .result) (read .wide .result) (zero (c .before .before .before .before)) (entry .ensures) (size read)
+    name-part (now (a .card)) (a .word) (entry .result) (read .wide .result) (zero (c .before .before .before .before .before))
+    (place (c .before .before .before)) (size read)
 
 pub name-spec : {M : Type 1} → statement M
 name-spec =
@@ -76,6 +86,7 @@ name-spec =
     name-number-requires
     slice-aggregate-result
     returns
+    of-requires
     entry-at-requires
     add-from
     add-to

@@ -5,6 +5,7 @@ use native.Mathlib.Omega.{arith}
 use mathlib.Core.Path.{_∙_}
 use borrow.Author.Needs.{needs}
 use denote.Ref.{now}
+use Rattle.card.proofs.Accepted.{view-entry}
 use Rattle.card.proofs.NumberLaws.{AreBytes, same-part, other-parts, rest-decides}
 use Rattle.card.proofs.entries.entries_equal.Statement.{statement}
 use Rattle.card.proofs.entries.entries_equal.Tie as tie
@@ -33,7 +34,9 @@ returns c =
     let other =
     other-parts card (bytes on) (first .result) (second .result) 8 (omega arith) (omega arith) (on .before .eight .ensures) (on .eight2 .ensures) 4
     (c .if1 .taken) in
-    rw (first .ensures, second .ensures) at other
+    let start = on .before .before .before .before .before in
+    let view = view-entry (start .pre .0) in
+    rw (first .ensures ∙ view (start .args .u), second .ensures ∙ view (start .args .v)) at other
 
 add-four : tie.Need-add-four
 add-four c = search needs
@@ -58,7 +61,9 @@ returns-2 c =
     let rest =
     rest-decides card (bytes on) (first .result) (second .result) 8 (omega arith) (omega arith) (on .before .eight .ensures) (on .eight2 .ensures) 4
     (c .before .before .if1 .left) in
-    rw (first .ensures, second .ensures) at (fours ∙ rest)
+    let start = on .before .before .before .before .before in
+    let view = view-entry (start .pre .0) in
+    rw (first .ensures ∙ view (start .args .u), second .ensures ∙ view (start .args .v)) at (fours ∙ rest)
 
 pub entries-equal-spec : {M : Type 1} → statement M
 entries-equal-spec =

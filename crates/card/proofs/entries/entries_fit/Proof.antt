@@ -8,18 +8,15 @@ use borrow.Author.Count.{below-none, below-more}
 use borrow.Author.Needs.{needs}
 use denote.Ref.{now}
 use Rattle.layout.specs.Card.{wordCount, entryFits}
-use Rattle.card.proofs.Laws.{refused, passed, all-below, some-below}
+use Rattle.layout.proofs.TestLaws.{refused, passed, all-below, some-below}
 use Rattle.card.proofs.entries.entries_fit.Statement.{statement}
 use Rattle.card.proofs.entries.entries_fit.Tie as tie
 
 abbrev Inv-loop : tie.InvT-loop
-Inv-loop card words v₀ v = (v ≤ words) × ((k : ℕ) → k < v → entryFits card k ≡ true)
+Inv-loop card view words v₀ v = (v ≤ words) × ((k : ℕ) → k < v → entryFits card k ≡ true)
 
 abbrev μ-loop : tie.MeasureT-loop
-μ-loop card words v₀ v = words - v
-
-of-requires : tie.Need-of-requires Inv-loop μ-loop
-of-requires c κs = search needs
+μ-loop card view words v₀ v = words - v
 
 loop-holds : tie.Need-loop-holds Inv-loop μ-loop
 loop-holds c = (search needs, below-none _)
@@ -29,7 +26,7 @@ entry-fits-requires c κs = omega arith
 
 returns : tie.Need-returns Inv-loop μ-loop
 returns c =
-    let card = now (c .before .before .before .before .before .before .args .card) in
+    let card = now (c .before .before .before .before .before .args .card) in
     some-below (wordCount card) (entryFits card) (c .before .before .before .loop .v) (omega arith)
     (refused (c .before .entry-fits .ensures) (c .if1 .taken))
 
@@ -44,7 +41,7 @@ loop-again c = (search needs, below-more _ _ (c .before .before .before .loop .i
 
 returns-2 : tie.Need-returns-2 Inv-loop μ-loop
 returns-2 c =
-    let card = now (c .before .before .before .before .args .card) in
+    let card = now (c .before .before .before .args .card) in
     all-below (wordCount card) (entryFits card) λ k lt. c .before .loop .inv .1 k (omega arith)
 
 pub entries-fit-spec : {M : Type 1} → statement M
@@ -53,7 +50,6 @@ entries-fit-spec =
     (tie.spec
     Inv-loop
     μ-loop
-    of-requires
     loop-holds
     entry-fits-requires
     returns

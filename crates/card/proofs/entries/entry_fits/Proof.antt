@@ -7,8 +7,10 @@ use mathlib.Core.Path.{_≡_, _∙_}
 use borrow.Author.Needs.{needs}
 use denote.Ref.{now}
 use Rattle.layout.specs.Bytes.{byteAt}
-use Rattle.layout.specs.Card.{within}
-use Rattle.card.proofs.Laws.{refused, passed, entry-size, entry-spelling, entry-padding, limits}
+use Rattle.layout.specs.Card.{entryAt, mostLetters, within}
+use Rattle.layout.proofs.TestLaws.{refused, passed, limits}
+use Rattle.card.proofs.Accepted.{view-entry}
+use Rattle.card.proofs.Laws.{entry-size, entry-spelling, entry-padding}
 use Rattle.card.proofs.entries.entry_fits.Statement.{statement}
 use Rattle.card.proofs.entries.entry_fits.Tie as tie
 
@@ -17,11 +19,17 @@ length-byte : (c : tie.After-wide)
     → c .wide .result ≡ byteAt (now (c .before .before .before .before .args .card)) (c .before .before .entry-at .result)
 length-byte c = c .wide .ensures .0 ∙ c .before .byte .ensures
 
-size : (c : tie.Else1) → within 1 11 (c .before .before .wide .result) ≡ true
+place : (c : tie.After-wide) → let a = c .before .before .before .before .args in
+    c .before .before .entry-at .result ≡ entryAt (now (a .card)) (a .v)
+place c =
+    let start = c .before .before .before .before in
+    c .before .before .entry-at .ensures ∙ view-entry (start .pre .0) (start .args .v)
+
+size : (c : tie.Else1) → within 1 mostLetters (c .before .before .wide .result) ≡ true
 size c = passed (c .before .within .ensures) (c .if1 .left)
 
-most : (c : tie.Else1) → c .before .before .wide .result ≤ 11
-most c = limits 1 11 (c .before .before .wide .result) (size c) .1
+most : (c : tie.Else1) → c .before .before .wide .result ≤ mostLetters
+most c = limits 1 mostLetters (c .before .before .wide .result) (size c) .1
 
 entry-at-requires : tie.Need-entry-at-requires
 entry-at-requires c κs = search needs
@@ -43,7 +51,7 @@ returns c =
     let read = c .before .before in
     let a = read .before .before .before .before .args in
     let entry = read .before .before .entry-at in
-    entry-size (now (a .card)) (a .v) (entry .result) (read .wide .result) (entry .ensures) (length-byte read)
+    entry-size (now (a .card)) (a .v) (entry .result) (read .wide .result) (place read) (length-byte read)
     (refused (c .before .within .ensures) (c .if1 .taken))
 
 add-from : tie.Need-add-from
@@ -72,7 +80,7 @@ returns-2 c =
     let read = c .before .before .before .before .before in
     let a = read .before .before .before .before .args in
     let entry = read .before .before .entry-at in
-    entry-spelling (now (a .card)) (a .v) (entry .result) (read .wide .result) (entry .ensures) (length-byte read)
+    entry-spelling (now (a .card)) (a .v) (entry .result) (read .wide .result) (place read) (length-byte read)
     (size (c .before .before .before))
     (refused (c .before .all-letters .ensures) (c .if2 .taken))
 
@@ -94,7 +102,7 @@ returns-3 c =
     let a = read .before .before .before .before .args in
     let entry = read .before .before .entry-at in
     c .all-zero .ensures
-    ∙ entry-padding (now (a .card)) (a .v) (entry .result) (read .wide .result) (entry .ensures) (length-byte read)
+    ∙ entry-padding (now (a .card)) (a .v) (entry .result) (read .wide .result) (place read) (length-byte read)
     (size (c .before .before .before .before .before))
     (passed (c .before .before .before .all-letters .ensures) (c .before .before .if2 .left))
 

@@ -10,7 +10,7 @@ use borrow.Author.Needs.{needs}
 use denote.Ref.{now}
 use Rattle.layout.specs.Bytes.{sameBytes}
 use Rattle.layout.specs.Card.{entryOf}
-use Rattle.card.proofs.Laws.{all-below, some-below}
+use Rattle.layout.proofs.TestLaws.{all-below, some-below}
 use Rattle.card.proofs.entries.entry_is_new.Statement.{statement}
 use Rattle.card.proofs.entries.entry_is_new.Tie as tie
 
@@ -18,10 +18,10 @@ abbrev differs : List ℕ → ℕ → ℕ → Bool
 differs card v u = not (sameBytes (entryOf card u) (entryOf card v))
 
 abbrev Inv-loop : tie.InvT-loop
-Inv-loop card v u₀ u = (u ≤ v) × ((k : ℕ) → k < u → differs card v k ≡ true)
+Inv-loop card view v u₀ u = (u ≤ v) × ((k : ℕ) → k < u → differs card v k ≡ true)
 
 abbrev μ-loop : tie.MeasureT-loop
-μ-loop card v u₀ u = v - u
+μ-loop card view v u₀ u = v - u
 
 loop-holds : tie.Need-loop-holds Inv-loop μ-loop
 loop-holds c = (search needs, below-none _)

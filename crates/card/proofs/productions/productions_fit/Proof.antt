@@ -3,36 +3,35 @@
 use Prim.Native.Nat.{ℕ, _≤_, _<_, _-_}
 use native.Mathlib.Omega.{arith}
 use mathlib.Core.Bool.{true}
-use mathlib.Core.Path.{_≡_}
+use mathlib.Core.Path.{_≡_, _∙_}
 use borrow.Author.Count.{below-none, below-more}
 use borrow.Author.Needs.{needs}
 use denote.Ref.{now}
 use Rattle.layout.specs.Card.{productionCount, productionFits}
-use Rattle.card.proofs.Laws.{refused, passed, all-below, some-below}
+use Rattle.layout.proofs.TestLaws.{refused, passed, all-below, some-below}
+use Rattle.card.proofs.Accepted.{view-table}
 use Rattle.card.proofs.productions.productions_fit.Statement.{statement}
 use Rattle.card.proofs.productions.productions_fit.Tie as tie
 
 abbrev Inv-loop : tie.InvT-loop
-Inv-loop card count words m₀ m = (m ≤ count) × ((k : ℕ) → k < m → productionFits card k ≡ true)
+Inv-loop card count table m₀ m = (m ≤ count) × ((k : ℕ) → k < m → productionFits card k ≡ true)
 
 abbrev μ-loop : tie.MeasureT-loop
-μ-loop card count words m₀ m = count - m
+μ-loop card count table m₀ m = count - m
 
-of-requires : tie.Need-of-requires Inv-loop μ-loop
-of-requires c κs = search needs
-
-of-requires-2 : tie.Need-of-requires-2 Inv-loop μ-loop
-of-requires-2 c κs = search needs
+production-table-requires : tie.Need-production-table-requires Inv-loop μ-loop
+production-table-requires c κs = search needs
 
 loop-holds : tie.Need-loop-holds Inv-loop μ-loop
 loop-holds c = (search needs, below-none _)
 
 production-fits-requires : tie.Need-production-fits-requires Inv-loop μ-loop
-production-fits-requires c κs = (c .before .before .of2 .ensures .words, omega arith)
+production-fits-requires c κs =
+    (c .before .before .production-table .ensures ∙ view-table (c .before .before .before .before .pre .0), omega arith)
 
 returns : tie.Need-returns Inv-loop μ-loop
 returns c =
-    let card = now (c .before .before .before .before .before .before .before .args .card) in
+    let card = now (c .before .before .before .before .before .before .args .card) in
     some-below (productionCount card) (productionFits card) (c .before .before .before .loop .m) (omega arith)
     (refused (c .before .production-fits .ensures) (c .if1 .taken))
 
@@ -47,7 +46,7 @@ loop-again c = (search needs, below-more _ _ (c .before .before .before .loop .i
 
 returns-2 : tie.Need-returns-2 Inv-loop μ-loop
 returns-2 c =
-    let card = now (c .before .before .before .before .before .args .card) in
+    let card = now (c .before .before .before .before .args .card) in
     all-below (productionCount card) (productionFits card) λ k lt. c .before .loop .inv .1 k (omega arith)
 
 pub productions-fit-spec : {M : Type 1} → statement M
@@ -56,8 +55,7 @@ productions-fit-spec =
     (tie.spec
     Inv-loop
     μ-loop
-    of-requires
-    of-requires-2
+    production-table-requires
     loop-holds
     production-fits-requires
     returns
