@@ -49,7 +49,6 @@ pub data LeftmostSteps (g : List Rule) : List Symbol → List ℕ → List Symbo
   proceed : {p : ℕ} {f f′ f″ : List Symbol} {ps : List ℕ} → LeftmostStep g p f f′ → LeftmostSteps g f′ ps f″
       → LeftmostSteps g f (p ∷ ps) f″
 
-
 -- The test. The dependent's stack, where the action fits the left side's stack; the right side, where the production fits.
 abbrev pub acted : Action → List ℕ → Option (List ℕ)
 acted (Take γ) [] = none
