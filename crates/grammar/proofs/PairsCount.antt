@@ -8,10 +8,11 @@ use lib.ListN.{length}
 use Rattle.grammar.specs.Rewriting.{Rule, Spine, Action, Take, Keep, Give, OneSide, isFirst, isLast, OneSided}
 use Rattle.grammar.specs.Plan.{PlanStep, LeftmostDerivation}
 use Rattle.grammar.specs.Pairs.{pairsOf}
+use Rattle.grammar.specs.Matching.{oneGive, oneTake, giveSteps, takeSteps}
 use Rattle.grammar.proofs.StandsLaws.{stands-getElem}
 use Rattle.grammar.proofs.PlanSize.{plan-length}
 use Rattle.grammar.proofs.PlanRuns.{spineDepths, Runs, over, wordStep, spineStep, yields-runs}
-use Rattle.grammar.proofs.PairsLaws.{oneGive, oneTake, giveSteps, takeSteps, gives-count, takes-gives}
+use Rattle.grammar.proofs.PairsLaws.{gives-count, takes-gives}
 
 -- No action both gives and takes.
 one-action : (a : Action) → oneGive a + oneTake a ≤ 1

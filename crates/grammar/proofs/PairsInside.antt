@@ -1,18 +1,18 @@
--- The places of a plan's pairs are words of the line: each symbol of a form comes to at least one word, so the side of a step starts
--- before the end of the step's stretch, and pairs hold such places alone.
+-- The stretches of a plan's pairs have words, all of the line: each symbol of a form comes to at least one word, so the side of a step
+-- has some, within the step's own stretch, and pairs hold such sides alone. Their places, then, are words of the line.
 use Prim.Native.Nat.{ℕ, _+_, _≤_, _<_}
-use native.Mathlib.Nat.{le-trans}
 use native.Mathlib.Omega.{arith}
-use mathlib.Core.Path.{_≡_, refl}
+use mathlib.Core.Path.{_≡_, refl, _∙_, subst}
 use mathlib.Core.List.{List, [], _∷_, _++_, tail}
-use mathlib.Core.Option.{Option, none, some}
-use lib.ListN.{length, getElem?}
+use lib.ListN.{length}
 use Rattle.grammar.specs.Lists.{Stands, here, there}
 use Rattle.grammar.specs.Rewriting.{Rule, Lexical, Spine, Action, Take, Keep, Give, Symbol, nonterminal, sides, Replaces, lexical, spine}
 use Rattle.grammar.specs.Plan.{PlanStep, planStep, firstOf, othersOf, Yields, nothing, reads, replaces, LeftmostDerivation}
-use Rattle.grammar.specs.Pairs.{Pair, pair, sideStart, pairsOf}
-use Rattle.grammar.proofs.StandsLaws.{stands-getElem}
-use Rattle.grammar.proofs.PairsLaws.{takesRule, takesOf, matchedRule, matched, topOf, Under, empty, under, pairs-matched}
+use Rattle.grammar.specs.Pairs.{Stretch, stretch, sideOf, placeIn, Pair, pair, pairsOf}
+use Rattle.grammar.specs.Matching.{takesAction, takesOf, matchedAction, matched, topOf}
+use Rattle.grammar.proofs.StandsLaws.{stands-getElem, stands-unique}
+use Rattle.grammar.proofs.PlanRuns.{total, Shifts, less, same, more, Runs, over, wordStep, spineStep, total-spine, yields-runs}
+use Rattle.grammar.proofs.PairsLaws.{runs-count, pairs-matched}
 
 spine-first : (before : List ℕ) (X : Symbol) (f : List Symbol) → length (firstOf (sides before ++ (X ∷ f))) ≡ 1
 spine-first [] X f = refl
@@ -30,32 +30,38 @@ yields-longer (reads a y) = omega (arith, yields-longer y)
 yields-longer (replaces s y₀ y₁ y₂) =
     omega (arith, replaces-first s, yields-longer y₀, yields-longer y₁, yields-longer y₂)
 
--- Every step of the plan has its side's start below n.
-abbrev stepPlace : Option Rule → ℕ → ℕ → ℕ
-stepPlace none i k = i
-stepPlace (some r) i k = sideStart r i k
+-- A stretch with words, all of them among the first n.
+pub data InLine (n : ℕ) : Stretch → Type 0 where
+  inLine : {from to : ℕ} → from < to → to ≤ n → InLine n (stretch from to)
 
+in-more : {m n : ℕ} {side : Stretch} → m ≤ n → InLine m side → InLine n side
+in-more h (inLine l k) = inLine l (omega arith)
+
+in-place : {n : ℕ} {side : Stretch} → InLine n side → placeIn side < n
+in-place (inLine l k) = omega arith
+
+-- Every step of the plan has such a side.
 data Placed (g : List Rule) (n : ℕ) : List PlanStep → Type 0 where
   nosteps : Placed g n []
-  placed : {p i k j : ℕ} {plan : List PlanStep} → stepPlace (getElem? g p) i k < n → Placed g n plan
+  placed : {p i k j : ℕ} {R : Rule} {plan : List PlanStep} → Stands g p R → InLine n (sideOf R (planStep p i k j)) → Placed g n plan
       → Placed g n (planStep p i k j ∷ plan)
 
 placed-append : {g : List Rule} {m n : ℕ} {ps qs : List PlanStep} → m ≤ n → Placed g m ps → Placed g n qs → Placed g n (ps ++ qs)
 placed-append h nosteps y = y
-placed-append h (placed l x) y = placed (le-trans l h) (placed-append h x y)
+placed-append h (placed s l x) y = placed s (in-more h l) (placed-append h x y)
 
-spine-placed : (A : ℕ) (a : Action) (before : List ℕ) (D : ℕ) (t after : List ℕ) (i k m : ℕ)
-    → length (othersOf (sides before ++ (nonterminal D t ∷ sides after))) + k ≤ m → i < k
-    → sideStart (Spine A a before D after) i k < m
-spine-placed A a (B ∷ before) D t after i k m h l = omega arith
-spine-placed A a [] D t [] i k m h l = omega arith
-spine-placed A a [] D t (C ∷ after) i k m h l = omega arith
+spine-placed : {n : ℕ} (A : ℕ) (a : Action) (before : List ℕ) (D : ℕ) (t after : List ℕ) (p i k m : ℕ)
+    → length (othersOf (sides before ++ (nonterminal D t ∷ sides after))) + k ≤ m → i < k → m ≤ n
+    → InLine n (sideOf (Spine A a before D after) (planStep p i k m))
+spine-placed A a (B ∷ before) D t after p i k m h l b = inLine l (omega arith)
+spine-placed A a [] D t [] p i k m h l b = inLine {from = i} {to = m} (omega arith) b
+spine-placed A a [] D t (C ∷ after) p i k m h l b = inLine {from = k} {to = m} (omega arith) b
 
-step-placed : {g : List Rule} {p : ℕ} {X : Symbol} {r : List Symbol} (i k m : ℕ) → Replaces g p X r
-    → length (othersOf r) + k ≤ m → i < k → stepPlace (getElem? g p) i k < m
-step-placed i k m (lexical s) h l = rw (stands-getElem s) (omega arith)
-step-placed i k m (spine {A = A} {D = D} {a = a} {before = before} {after = after} {t = t} s x) h l =
-    rw (stands-getElem s) (spine-placed A a before D t after i k m h l)
+step-placed : {g : List Rule} {p n : ℕ} {X : Symbol} {r : List Symbol} {plan : List PlanStep} (i k m : ℕ) → Replaces g p X r
+    → length (othersOf r) + k ≤ m → i < k → m ≤ n → Placed g n plan → Placed g n (planStep p i k m ∷ plan)
+step-placed i k m (lexical s) h l b x = placed s (inLine {from = i} {to = m} (omega arith) b) x
+step-placed {p = p} i k m (spine {A = A} {D = D} {a = a} {before = before} {after = after} {t = t} s y) h l b x =
+    placed s (spine-placed A a before D t after p i k m h l b) x
 
 yields-placed : {g : List Rule} {at : ℕ → ℕ → Type 0} {f : List Symbol} {i j : ℕ} {plan : List PlanStep} → Yields g at f i j plan
     → Placed g j plan
@@ -63,50 +69,59 @@ yields-placed nothing = nosteps
 yields-placed (reads a y) = yields-placed y
 yields-placed (replaces {i = i} {k = k} {m = m} s y₀ y₁ y₂) =
     let l₀ = yields-longer y₀ in let l₁ = yields-longer y₁ in let l₂ = yields-longer y₂ in let e = replaces-first s in
-    placed (le-trans (step-placed i k m s l₁ (omega arith)) (omega arith))
+    step-placed i k m s l₁ (omega arith) (omega arith)
     (placed-append (omega arith) (placed-append (omega arith) (yields-placed y₀) (yields-placed y₁)) (yields-placed y₂))
 
--- So have the open takes and the pairs.
+-- So have the open takes and the pairs: where a give is met, a take is open.
+data AllInLine (n : ℕ) : List Stretch → Type 0 where
+  nosides : AllInLine n []
+  andSide : {side : Stretch} {ts : List Stretch} → InLine n side → AllInLine n ts → AllInLine n (side ∷ ts)
+
 data Inside (n : ℕ) : List Pair → Type 0 where
   nopairs : Inside n []
-  inside : {a b : ℕ} {xs : List Pair} → a < n → b < n → Inside n xs → Inside n (pair a b ∷ xs)
+  andPair : {given taken : Stretch} {xs : List Pair} → InLine n given → InLine n taken → Inside n xs
+      → Inside n (pair given taken ∷ xs)
 
-under-tail : {n : ℕ} {ts : List ℕ} → Under n ts → Under n (tail ts)
-under-tail empty = empty
-under-tail (under l u) = u
+takes-in : {n d d′ : ℕ} {a : Action} {side : Stretch} {ts : List Stretch} → Shifts a d d′ → InLine n side → AllInLine n ts
+    → AllInLine n (takesAction a side ts)
+takes-in less h u = andSide h u
+takes-in same h u = u
+takes-in more h nosides = nosides
+takes-in more h (andSide k u) = u
 
-under-top : {m n : ℕ} {ts : List ℕ} → m < n → Under n ts → topOf ts < n
-under-top h empty = omega arith
-under-top h (under l u) = l
+matched-in : {n d d′ : ℕ} {a : Action} {side : Stretch} {ts : List Stretch} {xs : List Pair} (t : ℕ) → Shifts a d d′
+    → length ts ≡ d′ + t → InLine n side → AllInLine n ts → Inside n xs → Inside n (matchedAction a side ts xs)
+matched-in t less e h u v = v
+matched-in t same e h u v = v
+matched-in t more e h nosides v = absurd (omega arith)
+matched-in t more e h (andSide k u) v = andPair h k v
 
-takesRule-under : {n : ℕ} (r : Option Rule) (i k : ℕ) {ts : List ℕ} → stepPlace r i k < n → Under n ts
-    → Under n (takesRule r i k ts)
-takesRule-under none i k h u = u
-takesRule-under (some (Lexical A w)) i k h u = u
-takesRule-under (some (Spine A (Take γ) before D after)) i k h u = under h u
-takesRule-under (some (Spine A Keep before D after)) i k h u = u
-takesRule-under (some (Spine A (Give γ) before D after)) i k h u = under-tail u
+module _ {g : List Rule} {n : ℕ} where
+  side-at : {p : ℕ} {R R′ : Rule} (st : PlanStep) → Stands g p R → Stands g p R′ → InLine n (sideOf R st) → InLine n (sideOf R′ st)
+  side-at st s s′ = subst (λ (R : Rule). InLine n (sideOf R st)) (stands-unique s s′)
 
-matchedRule-inside : {n : ℕ} (r : Option Rule) (i k : ℕ) {ts : List ℕ} {xs : List Pair} → stepPlace r i k < n → Under n ts
-    → Inside n xs → Inside n (matchedRule r i k ts xs)
-matchedRule-inside none i k h u v = v
-matchedRule-inside (some (Lexical A w)) i k h u v = v
-matchedRule-inside (some (Spine A (Take γ) before D after)) i k h u v = v
-matchedRule-inside (some (Spine A Keep before D after)) i k h u v = v
-matchedRule-inside (some (Spine A (Give γ) before D after)) i k h u v = inside h (under-top h u) v
+  runs-takes-in : {ns : List ℕ} {plan : List PlanStep} → Runs g ns plan → Placed g n plan → AllInLine n (takesOf g plan)
+  runs-takes-in over nosteps = nosides
+  runs-takes-in (wordStep s r) (placed s′ h x) = rw (stands-getElem s) (runs-takes-in r x)
+  runs-takes-in (spineStep s a r) (placed s′ h x) = rw (stands-getElem s) (takes-in a (side-at _ s′ s h) (runs-takes-in r x))
 
-takesOf-under : {g : List Rule} {n : ℕ} {plan : List PlanStep} → Placed g n plan → Under n (takesOf g plan)
-takesOf-under nosteps = empty
-takesOf-under {g} (placed {p = p} h x) = takesRule-under (getElem? g p) _ _ h (takesOf-under x)
+  runs-matched-in : {ns : List ℕ} {plan : List PlanStep} → Runs g ns plan → Placed g n plan → Inside n (matched g plan)
+  runs-matched-in over nosteps = nopairs
+  runs-matched-in (wordStep s r) (placed s′ h x) = rw (stands-getElem s) (runs-matched-in r x)
+  runs-matched-in (spineStep {n′ = n′} {before = before} {after = after} {ns = ns} s a r) (placed s′ h x) =
+      rw (stands-getElem s)
+      (matched-in (total ns) a (runs-count r ∙ total-spine before n′ after ns) (side-at _ s′ s h) (runs-takes-in r x)
+      (runs-matched-in r x))
 
-matched-inside : {g : List Rule} {n : ℕ} {plan : List PlanStep} → Placed g n plan → Inside n (matched g plan)
-matched-inside nosteps = nopairs
-matched-inside {g} (placed {p = p} h x) = matchedRule-inside (getElem? g p) _ _ h (takesOf-under x) (matched-inside x)
+inside-stands : {n m : ℕ} {given taken : Stretch} {xs : List Pair} → Inside n xs → Stands xs m (pair given taken)
+    → InLine n given × InLine n taken
+inside-stands (andPair x y v) here = (x, y)
+inside-stands (andPair x y v) (there s) = inside-stands v s
 
-inside-stands : {n m a b : ℕ} {xs : List Pair} → Inside n xs → Stands xs m (pair a b) → (a < n) × (b < n)
-inside-stands (inside x y v) here = (x, y)
-inside-stands (inside x y v) (there s) = inside-stands v s
+pub pairs-in-line : {g : List Rule} {at : ℕ → ℕ → Type 0} {n m : ℕ} {given taken : Stretch} {plan : List PlanStep}
+    → LeftmostDerivation g at n plan → Stands (pairsOf g plan) m (pair given taken) → InLine n given × InLine n taken
+pairs-in-line y s = inside-stands (runs-matched-in (yields-runs y) (yields-placed y)) (rw (pairs-matched y) at s)
 
-pub pairs-inside : {g : List Rule} {at : ℕ → ℕ → Type 0} {n m a b : ℕ} {plan : List PlanStep} → LeftmostDerivation g at n plan
-    → Stands (pairsOf g plan) m (pair a b) → (a < n) × (b < n)
-pairs-inside {g} {plan = plan} y s = inside-stands (matched-inside (yields-placed y)) (rw (pairs-matched y) at s)
+pub pairs-inside : {g : List Rule} {at : ℕ → ℕ → Type 0} {n m : ℕ} {given taken : Stretch} {plan : List PlanStep}
+    → LeftmostDerivation g at n plan → Stands (pairsOf g plan) m (pair given taken) → (placeIn given < n) × (placeIn taken < n)
+pairs-inside y s = let (x, z) = pairs-in-line y s in (in-place x, in-place z)

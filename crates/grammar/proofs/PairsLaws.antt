@@ -1,5 +1,5 @@
--- Pairs by the names of indices are pairs by bracket matching: a pair's number, put on a stack, meets in turn the place of the take
--- that removes it. By induction on a run of the plan, with the pairs of the stacks settled by the plan's open takes, in order.
+-- Pairs by the names of indices are pairs by bracket matching: a pair's number, put on a stack, meets in turn the side of the take
+-- that removes it. By induction on a run of the plan, with each pair of the stacks given its take among the plan's open takes, in order.
 use Prim.Native.Nat.{ℕ, zero, suc, _+_, _≤_, _<_}
 use native.Mathlib.Nat.{le-trans}
 use native.Mathlib.Omega.{arith}
@@ -8,55 +8,22 @@ use mathlib.Core.List.{List, [], _∷_, _++_, append-assoc, append-nil, tail}
 use mathlib.Core.Option.{Option, none, some}
 use lib.ListN.{length, getElem?, length-append}
 use Rattle.grammar.specs.Rewriting.{Rule, Lexical, Spine, Action, Take, Keep, Give, Symbol}
-use Rattle.grammar.specs.Plan.{PlanStep, planStep, Yields, LeftmostDerivation}
-use Rattle.grammar.specs.Pairs.{Pair, pair, sideStart, settlePair, emptyStacks, spineStacks, Replay, replayAction, replay, pairsOf}
+use Rattle.grammar.specs.Plan.{PlanStep, productionIn, Yields, LeftmostDerivation}
+use Rattle.grammar.specs.Pairs.{Stretch, noStretch, Pair, pair, takePair, emptyStacks, spineStacks, Replay, replayAction, replay, pairsOf}
+use Rattle.grammar.specs.Matching.{takesAction, takesOf, matchedAction, matchedRule, matched, oneGive, oneTake, countRule, giveSteps, takeSteps}
 use Rattle.grammar.proofs.StandsLaws.{stands-getElem}
 use Rattle.grammar.proofs.PlanRuns.{depths, total, zeros, spineDepths, Shifts, less, same, more}
 use Rattle.grammar.proofs.PlanRuns.{Runs, over, wordStep, spineStep, total-spine, yields-runs}
 
--- `takesOf g plan`: the places of the takes whose give stands before the plan, top first.
-abbrev pub takesAction : Action → ℕ → List ℕ → List ℕ
-takesAction (Take γ) place ts = place ∷ ts
-takesAction Keep place ts = ts
-takesAction (Give γ) place ts = tail ts
-
-abbrev pub takesRule : Option Rule → ℕ → ℕ → List ℕ → List ℕ
-takesRule none i k ts = ts
-takesRule (some (Lexical A w)) i k ts = ts
-takesRule (some (Spine A a before D after)) i k ts = takesAction a (sideStart (Spine A a before D after) i k) ts
-
-abbrev pub takesOf : List Rule → List PlanStep → List ℕ
-takesOf g [] = []
-takesOf g (planStep p i k j ∷ plan) = takesRule (getElem? g p) i k (takesOf g plan)
-
--- `matched g plan`: each give of the plan with the first take that is still open behind it.
-abbrev pub topOf : List ℕ → ℕ
-topOf [] = 0
-topOf (t ∷ ts) = t
-
-abbrev pub matchedAction : Action → ℕ → List ℕ → List Pair → List Pair
-matchedAction (Take γ) place ts pairs = pairs
-matchedAction Keep place ts pairs = pairs
-matchedAction (Give γ) place ts pairs = pair place (topOf ts) ∷ pairs
-
-abbrev pub matchedRule : Option Rule → ℕ → ℕ → List ℕ → List Pair → List Pair
-matchedRule none i k ts pairs = pairs
-matchedRule (some (Lexical A w)) i k ts pairs = pairs
-matchedRule (some (Spine A a before D after)) i k ts pairs = matchedAction a (sideStart (Spine A a before D after) i k) ts pairs
-
-abbrev pub matched : List Rule → List PlanStep → List Pair
-matched g [] = []
-matched g (planStep p i k j ∷ plan) = matchedRule (getElem? g p) i k (takesOf g plan) (matched g plan)
-
 -- The open takes are as many as the stacks have indices.
-shift-count : {a : Action} {n n′ : ℕ} (place : ℕ) (ts : List ℕ) (t : ℕ) → Shifts a n n′ → length ts ≡ n′ + t
-    → length (takesAction a place ts) ≡ n + t
-shift-count place ts t less h = omega arith
-shift-count place ts t same h = h
-shift-count place [] t more h = absurd (omega arith)
-shift-count place (x ∷ ts) t more h = omega arith
+shift-count : {a : Action} {n n′ : ℕ} (side : Stretch) (ts : List Stretch) (t : ℕ) → Shifts a n n′ → length ts ≡ n′ + t
+    → length (takesAction a side ts) ≡ n + t
+shift-count side ts t less h = omega arith
+shift-count side ts t same h = h
+shift-count side [] t more h = absurd (omega arith)
+shift-count side (x ∷ ts) t more h = omega arith
 
-runs-count : {g : List Rule} {ns : List ℕ} {plan : List PlanStep} → Runs g ns plan → length (takesOf g plan) ≡ total ns
+pub runs-count : {g : List Rule} {ns : List ℕ} {plan : List PlanStep} → Runs g ns plan → length (takesOf g plan) ≡ total ns
 runs-count over = refl
 runs-count (wordStep s r) = rw (stands-getElem s) (omega (arith, runs-count r))
 runs-count {g} (spineStep {n′ = n′} {before = before} {after = after} {ns = ns} {plan = plan} s a r) =
@@ -67,19 +34,19 @@ pub takes-count : {g : List Rule} {at : ℕ → ℕ → Type 0} {f : List Symbol
 takes-count y = runs-count (yields-runs y)
 
 -- What follows a run adds its own open takes and pairs.
-takes-shift : {a : Action} {n n′ : ℕ} (place : ℕ) (ts us : List ℕ) (t : ℕ) → Shifts a n n′ → length ts ≡ n′ + t
-    → takesAction a place (ts ++ us) ≡ takesAction a place ts ++ us
-takes-shift place ts us t less h = refl
-takes-shift place ts us t same h = refl
-takes-shift place [] us t more h = absurd (omega arith)
-takes-shift place (x ∷ ts) us t more h = refl
+takes-shift : {a : Action} {n n′ : ℕ} (side : Stretch) (ts us : List Stretch) (t : ℕ) → Shifts a n n′ → length ts ≡ n′ + t
+    → takesAction a side (ts ++ us) ≡ takesAction a side ts ++ us
+takes-shift side ts us t less h = refl
+takes-shift side ts us t same h = refl
+takes-shift side [] us t more h = absurd (omega arith)
+takes-shift side (x ∷ ts) us t more h = refl
 
-matched-shift : {a : Action} {n n′ : ℕ} (place : ℕ) (ts us : List ℕ) (xs ys : List Pair) (t : ℕ) → Shifts a n n′
-    → length ts ≡ n′ + t → matchedAction a place (ts ++ us) (xs ++ ys) ≡ matchedAction a place ts xs ++ ys
-matched-shift place ts us xs ys t less h = refl
-matched-shift place ts us xs ys t same h = refl
-matched-shift place [] us xs ys t more h = absurd (omega arith)
-matched-shift place (x ∷ ts) us xs ys t more h = refl
+matched-shift : {a : Action} {n n′ : ℕ} (side : Stretch) (ts us : List Stretch) (xs ys : List Pair) (t : ℕ) → Shifts a n n′
+    → length ts ≡ n′ + t → matchedAction a side (ts ++ us) (xs ++ ys) ≡ matchedAction a side ts xs ++ ys
+matched-shift side ts us xs ys t less h = refl
+matched-shift side ts us xs ys t same h = refl
+matched-shift side [] us xs ys t more h = absurd (omega arith)
+matched-shift side (x ∷ ts) us xs ys t more h = refl
 
 runs-takes : {g : List Rule} {ns : List ℕ} {plan : List PlanStep} → Runs g ns plan → (rest : List PlanStep)
     → takesOf g (plan ++ rest) ≡ takesOf g plan ++ takesOf g rest
@@ -106,14 +73,14 @@ pub matched-append : {g : List Rule} {at : ℕ → ℕ → Type 0} {f : List Sym
     → (rest : List PlanStep) → matched g (plan ++ rest) ≡ matched g plan ++ matched g rest
 matched-append y = runs-matched (yields-runs y)
 
--- Each numbered pair is settled by the take that stands at its place.
-abbrev settleAll : List ℕ → List ℕ → List Pair → List Pair
-settleAll [] ts pairs = pairs
-settleAll (m ∷ ms) [] pairs = pairs
-settleAll (m ∷ ms) (t ∷ ts) pairs = settleAll ms ts (settlePair m t pairs)
+-- Each numbered pair gets the take that stands in its place.
+abbrev takeAll : List ℕ → List Stretch → List Pair → List Pair
+takeAll [] ts pairs = pairs
+takeAll (m ∷ ms) [] pairs = pairs
+takeAll (m ∷ ms) (t ∷ ts) pairs = takeAll ms ts (takePair m t pairs)
 
 -- All numbers of a list are below n.
-pub data Under (n : ℕ) : List ℕ → Type 0 where
+data Under (n : ℕ) : List ℕ → Type 0 where
   empty : Under n []
   under : {m : ℕ} {ms : List ℕ} → m < n → Under n ms → Under n (m ∷ ms)
 
@@ -121,34 +88,34 @@ under-more : {m n : ℕ} {ms : List ℕ} → m ≤ n → Under m ms → Under n 
 under-more h empty = empty
 under-more h (under l u) = under (le-trans l h) (under-more h u)
 
-settle-length : (m t : ℕ) (pairs : List Pair) → length (settlePair m t pairs) ≡ length pairs
-settle-length m t [] = refl
-settle-length zero t (pair a b ∷ pairs) = refl
-settle-length (suc m) t (x ∷ pairs) = ap suc (settle-length m t pairs)
+takePair-length : (m : ℕ) (t : Stretch) (pairs : List Pair) → length (takePair m t pairs) ≡ length pairs
+takePair-length m t [] = refl
+takePair-length zero t (pair a b ∷ pairs) = refl
+takePair-length (suc m) t (x ∷ pairs) = ap suc (takePair-length m t pairs)
 
-settle-append : (m t : ℕ) (pairs others : List Pair) → m < length pairs
-    → settlePair m t (pairs ++ others) ≡ settlePair m t pairs ++ others
-settle-append m t [] others h = absurd (omega arith)
-settle-append zero t (pair a b ∷ pairs) others h = refl
-settle-append (suc m) t (x ∷ pairs) others h = ap (λ (l : List Pair). x ∷ l) (settle-append m t pairs others (omega arith))
+takePair-append : (m : ℕ) (t : Stretch) (pairs others : List Pair) → m < length pairs
+    → takePair m t (pairs ++ others) ≡ takePair m t pairs ++ others
+takePair-append m t [] others h = absurd (omega arith)
+takePair-append zero t (pair a b ∷ pairs) others h = refl
+takePair-append (suc m) t (x ∷ pairs) others h = ap (λ (l : List Pair). x ∷ l) (takePair-append m t pairs others (omega arith))
 
-settle-last : (t a b : ℕ) (pairs : List Pair) → settlePair (length pairs) t (pairs ++ (pair a b ∷ [])) ≡ pairs ++ (pair a t ∷ [])
-settle-last t a b [] = refl
-settle-last t a b (x ∷ pairs) = ap (λ (l : List Pair). x ∷ l) (settle-last t a b pairs)
+takePair-last : (t a b : Stretch) (pairs : List Pair) → takePair (length pairs) t (pairs ++ (pair a b ∷ [])) ≡ pairs ++ (pair a t ∷ [])
+takePair-last t a b [] = refl
+takePair-last t a b (x ∷ pairs) = ap (λ (l : List Pair). x ∷ l) (takePair-last t a b pairs)
 
-settleAll-append : (ms ts : List ℕ) (pairs others : List Pair) → Under (length pairs) ms
-    → settleAll ms ts (pairs ++ others) ≡ settleAll ms ts pairs ++ others
-settleAll-append [] ts pairs others u = refl
-settleAll-append (m ∷ ms) [] pairs others u = refl
-settleAll-append (m ∷ ms) (t ∷ ts) pairs others (under l u) =
-    rw (settle-append m t pairs others l)
-    (settleAll-append ms ts (settlePair m t pairs) others (rw (settle-length m t pairs) u))
+takeAll-append : (ms : List ℕ) (ts : List Stretch) (pairs others : List Pair) → Under (length pairs) ms
+    → takeAll ms ts (pairs ++ others) ≡ takeAll ms ts pairs ++ others
+takeAll-append [] ts pairs others u = refl
+takeAll-append (m ∷ ms) [] pairs others u = refl
+takeAll-append (m ∷ ms) (t ∷ ts) pairs others (under l u) =
+    rw (takePair-append m t pairs others l)
+    (takeAll-append ms ts (takePair m t pairs) others (rw (takePair-length m t pairs) u))
 
-settle-new : (ms ts : List ℕ) (place t : ℕ) (pairs xs : List Pair) → Under (length pairs) ms
-    → settleAll (length pairs ∷ ms) (t ∷ ts) (pairs ++ (pair place 0 ∷ [])) ++ xs ≡ settleAll ms ts pairs ++ (pair place t ∷ xs)
-settle-new ms ts place t pairs xs u =
-    ap (λ (l : List Pair). settleAll ms ts l ++ xs) (settle-last t place 0 pairs)
-    ∙ (rw (settleAll-append ms ts pairs (pair place t ∷ []) u) (append-assoc (settleAll ms ts pairs) (pair place t ∷ []) xs))
+takeAll-new : (ms : List ℕ) (ts : List Stretch) (side t : Stretch) (pairs xs : List Pair) → Under (length pairs) ms
+    → takeAll (length pairs ∷ ms) (t ∷ ts) (pairs ++ (pair side noStretch ∷ [])) ++ xs ≡ takeAll ms ts pairs ++ (pair side t ∷ xs)
+takeAll-new ms ts side t pairs xs u =
+    ap (λ (l : List Pair). takeAll ms ts l ++ xs) (takePair-last t side noStretch pairs)
+    ∙ (rw (takeAll-append ms ts pairs (pair side t ∷ []) u) (append-assoc (takeAll ms ts pairs) (pair side t ∷ []) xs))
 
 -- The numbers on the stacks, leftmost and top first; and stacks that have these depths.
 abbrev flat : List (List ℕ) → List ℕ
@@ -177,90 +144,65 @@ fits-sides : (after : List ℕ) {s ns : List ℕ} {n : ℕ} {stacks : List (List
 fits-sides after (bottom x) = bottom (fits-empty after x)
 fits-sides after (push x) = push (fits-sides after x)
 
--- Replaying settles the numbers on the stacks by the open takes, and adds the pairs of the plan.
-abbrev Settles : (Replay → List Pair) → List ℕ → List Pair → List ℕ → Type 0
-Settles play ts xs ns = (stacks : List (List ℕ)) (pairs : List Pair) → Fits stacks ns → Under (length pairs) (flat stacks)
-    → play (record { stacks = stacks; pairs = pairs }) ≡ settleAll (flat stacks) ts pairs ++ xs
+-- Replaying gives the numbers on the stacks the open takes, and adds the pairs of the plan.
+abbrev Replays : (Replay → List Pair) → List Stretch → List Pair → List ℕ → Type 0
+Replays play ts xs ns = (stacks : List (List ℕ)) (pairs : List Pair) → Fits stacks ns → Under (length pairs) (flat stacks)
+    → play (record { stacks = stacks; pairs = pairs }) ≡ takeAll (flat stacks) ts pairs ++ xs
 
 module _ (play : Replay → List Pair) (xs : List Pair) (before after ns : List ℕ) where
-  settles-spine : (s : List ℕ) (n : ℕ) (ts : List ℕ) (stacks : List (List ℕ)) (pairs : List Pair)
-      → Settles play ts xs (spineDepths before n after ns) → Fits (s ∷ stacks) (n ∷ ns) → Under (length pairs) (s ++ flat stacks)
-      → play (record { stacks = spineStacks before s after stacks; pairs = pairs }) ≡ settleAll (s ++ flat stacks) ts pairs ++ xs
-  settles-spine s n ts stacks pairs go f u =
+  replays-spine : (s : List ℕ) (n : ℕ) (ts : List Stretch) (stacks : List (List ℕ)) (pairs : List Pair)
+      → Replays play ts xs (spineDepths before n after ns) → Fits (s ∷ stacks) (n ∷ ns) → Under (length pairs) (s ++ flat stacks)
+      → play (record { stacks = spineStacks before s after stacks; pairs = pairs }) ≡ takeAll (s ++ flat stacks) ts pairs ++ xs
+  replays-spine s n ts stacks pairs go f u =
       let e = flat-spine before s after stacks in
       go (spineStacks before s after stacks) pairs (fits-empty before (fits-sides after f)) (rw e u)
-      ∙ ap (λ (l : List ℕ). settleAll l ts pairs ++ xs) e
+      ∙ ap (λ (l : List ℕ). takeAll l ts pairs ++ xs) e
 
-  settles-shift : {a : Action} {n n′ : ℕ} (place : ℕ) (s ts : List ℕ) (t : ℕ) (stacks : List (List ℕ)) (pairs : List Pair)
-      → Shifts a n n′ → length ts ≡ n′ + t → Settles play ts xs (spineDepths before n′ after ns) → Fits (s ∷ stacks) (n ∷ ns)
+  replays-shift : {a : Action} {n n′ : ℕ} (side : Stretch) (s : List ℕ) (ts : List Stretch) (t : ℕ) (stacks : List (List ℕ)) (pairs : List Pair)
+      → Shifts a n n′ → length ts ≡ n′ + t → Replays play ts xs (spineDepths before n′ after ns) → Fits (s ∷ stacks) (n ∷ ns)
       → Under (length pairs) (s ++ flat stacks)
-      → play (replayAction a place before after s stacks pairs)
-      ≡ settleAll (s ++ flat stacks) (takesAction a place ts) pairs ++ matchedAction a place ts xs
-  settles-shift place s ts t stacks pairs less h go (push {m = m} {s = s′} f) (under l u) =
-      settles-spine s′ _ ts stacks (settlePair m place pairs) go f (rw (settle-length m place pairs) u)
-  settles-shift place s ts t stacks pairs same h go f u = settles-spine s _ ts stacks pairs go f u
-  settles-shift place s [] t stacks pairs more h go f u = absurd (omega arith)
-  settles-shift place s (y ∷ ts) t stacks pairs more h go f u =
-      let e = length-append pairs (pair place 0 ∷ []) in
-      settles-spine (length pairs ∷ s) _ (y ∷ ts) stacks (pairs ++ (pair place 0 ∷ [])) go (push f)
+      → play (replayAction a side before after s stacks pairs)
+      ≡ takeAll (s ++ flat stacks) (takesAction a side ts) pairs ++ matchedAction a side ts xs
+  replays-shift side s ts t stacks pairs less h go (push {m = m} {s = s′} f) (under l u) =
+      replays-spine s′ _ ts stacks (takePair m side pairs) go f (rw (takePair-length m side pairs) u)
+  replays-shift side s ts t stacks pairs same h go f u = replays-spine s _ ts stacks pairs go f u
+  replays-shift side s [] t stacks pairs more h go f u = absurd (omega arith)
+  replays-shift side s (y ∷ ts) t stacks pairs more h go f u =
+      let e = length-append pairs (pair side noStretch ∷ []) in
+      replays-spine (length pairs ∷ s) _ (y ∷ ts) stacks (pairs ++ (pair side noStretch ∷ [])) go (push f)
       (under (omega arith) (under-more (omega arith) u))
-      ∙ settle-new (s ++ flat stacks) ts place y pairs xs u
+      ∙ takeAll-new (s ++ flat stacks) ts side y pairs xs u
 
-runs-settles : {g : List Rule} {ns : List ℕ} {plan : List PlanStep} → Runs g ns plan
-    → Settles (replay g plan) (takesOf g plan) (matched g plan) ns
-runs-settles over stacks pairs nostacks u = sym (append-nil pairs)
-runs-settles (wordStep s r) ([] ∷ stacks) pairs (bottom f) u = rw (stands-getElem s) (runs-settles r stacks pairs f u)
-runs-settles {g} (spineStep {n′ = n′} {before = before} {after = after} {ns = ns} {plan = plan} s a r) (x ∷ stacks) pairs f u =
+runs-replays : {g : List Rule} {ns : List ℕ} {plan : List PlanStep} → Runs g ns plan
+    → Replays (replay g plan) (takesOf g plan) (matched g plan) ns
+runs-replays over stacks pairs nostacks u = sym (append-nil pairs)
+runs-replays (wordStep s r) ([] ∷ stacks) pairs (bottom f) u = rw (stands-getElem s) (runs-replays r stacks pairs f u)
+runs-replays {g} (spineStep {n′ = n′} {before = before} {after = after} {ns = ns} {plan = plan} s a r) (x ∷ stacks) pairs f u =
     rw (stands-getElem s)
-    (settles-shift (replay g plan) (matched g plan) before after ns _ x (takesOf g plan) (total ns) stacks pairs a
-    (runs-count r ∙ total-spine before n′ after ns) (runs-settles r) f u)
+    (replays-shift (replay g plan) (matched g plan) before after ns _ x (takesOf g plan) (total ns) stacks pairs a
+    (runs-count r ∙ total-spine before n′ after ns) (runs-replays r) f u)
 
 pub pairs-matched : {g : List Rule} {at : ℕ → ℕ → Type 0} {n : ℕ} {plan : List PlanStep} → LeftmostDerivation g at n plan
     → pairsOf g plan ≡ matched g plan
-pairs-matched y = runs-settles (yields-runs y) ([] ∷ []) [] (bottom nostacks) empty
+pairs-matched y = runs-replays (yields-runs y) ([] ∷ []) [] (bottom nostacks) empty
 
--- The steps of a plan that give, and those that take.
-abbrev pub oneGive : Action → ℕ
-oneGive (Take γ) = 0
-oneGive Keep = 0
-oneGive (Give γ) = 1
+-- A pair for each step that gives, and as many that take.
+pub matchedAction-length : (a : Action) (side : Stretch) (ts : List Stretch) (xs : List Pair)
+    → length (matchedAction a side ts xs) ≡ oneGive a + length xs
+matchedAction-length (Take γ) side ts xs = omega arith
+matchedAction-length Keep side ts xs = omega arith
+matchedAction-length (Give γ) side ts xs = omega arith
 
-abbrev pub oneTake : Action → ℕ
-oneTake (Take γ) = 1
-oneTake Keep = 0
-oneTake (Give γ) = 0
-
-abbrev pub countRule : (Action → ℕ) → Option Rule → ℕ
-countRule one none = 0
-countRule one (some (Lexical A w)) = 0
-countRule one (some (Spine A a before D after)) = one a
-
-abbrev pub countSteps : (Action → ℕ) → List Rule → List PlanStep → ℕ
-countSteps one g [] = 0
-countSteps one g (planStep p i k j ∷ plan) = countRule one (getElem? g p) + countSteps one g plan
-
-abbrev pub giveSteps : List Rule → List PlanStep → ℕ
-giveSteps g plan = countSteps oneGive g plan
-
-abbrev pub takeSteps : List Rule → List PlanStep → ℕ
-takeSteps g plan = countSteps oneTake g plan
-
-matchedAction-length : (a : Action) (place : ℕ) (ts : List ℕ) (xs : List Pair)
-    → length (matchedAction a place ts xs) ≡ oneGive a + length xs
-matchedAction-length (Take γ) place ts xs = omega arith
-matchedAction-length Keep place ts xs = omega arith
-matchedAction-length (Give γ) place ts xs = omega arith
-
-matchedRule-length : (r : Option Rule) (i k : ℕ) (ts : List ℕ) (xs : List Pair)
-    → length (matchedRule r i k ts xs) ≡ countRule oneGive r + length xs
-matchedRule-length none i k ts xs = omega arith
-matchedRule-length (some (Lexical A w)) i k ts xs = omega arith
-matchedRule-length (some (Spine A a before D after)) i k ts xs = matchedAction-length a _ ts xs
+matchedRule-length : (r : Option Rule) (st : PlanStep) (ts : List Stretch) (xs : List Pair)
+    → length (matchedRule r st ts xs) ≡ countRule oneGive r + length xs
+matchedRule-length none st ts xs = omega arith
+matchedRule-length (some (Lexical A w)) st ts xs = omega arith
+matchedRule-length (some (Spine A a before D after)) st ts xs = matchedAction-length a _ ts xs
 
 pub matched-length : (g : List Rule) (plan : List PlanStep) → length (matched g plan) ≡ giveSteps g plan
 matched-length g [] = refl
-matched-length g (planStep p i k j ∷ plan) =
-    omega (arith, matchedRule-length (getElem? g p) i k (takesOf g plan) (matched g plan), matched-length g plan)
+matched-length g (st ∷ plan) =
+    omega (arith, matchedRule-length (getElem? g (productionIn st)) st (takesOf g plan) (matched g plan), matched-length g plan)
 
 pub gives-count : {g : List Rule} {at : ℕ → ℕ → Type 0} {n : ℕ} {plan : List PlanStep} → LeftmostDerivation g at n plan
     → length (pairsOf g plan) ≡ giveSteps g plan

@@ -12,8 +12,8 @@ use Rattle.layout.specs.Answers.{nameNumber, nameAnswer, namePacked}
 use Rattle.layout.proofs.Packing.{ReadFits, read-fits, PairsFit, pairs-fit}
 use Rattle.reader.specs.Read.{answerFrom, Reads}
 use Rattle.reader.specs.declared.read.Answer.{Answer}
-use Rattle.plan.specs.Paired.{Pairs}
-use Rattle.plan.specs.declared.Paired.{Paired}
+use Rattle.check_pairs.specs.Paired.{Pairs}
+use Rattle.check_pairs.specs.declared.Paired.{Paired}
 use Rattle.lig.specs.Exports.{numberIn, ReadPacked, PairsPacked}
 
 pub number-packed : (a b c d : ℕ) → a < 65536 → numberIn (pack a b c d) ≡ a

@@ -38,14 +38,14 @@ pub extern "C" fn lig_read(card: &[u8], line: &[u8], chart: &mut [u8], plan: &mu
 pub extern "C" fn lig_check(card: &[u8], line: &[u8], plan: &[u8]) -> u64
     ensures { λ r. ⌜ r ≡ checkNumber (now (card .entry)) (now (line .entry)) (now (plan .entry)) ⌝ }
 {
-    plan::check(card, line, plan)
+    check_pairs::check(card, line, plan)
 }
 
 #[no_mangle]
 pub extern "C" fn lig_pairs(card: &[u8], line: &[u8], plan: &[u8], room: &mut [u8]) -> u64
     ensures { λ r. ⌜ PairsPacked (now (card .entry)) (now (line .entry)) (now (plan .entry)) (now (room .entry)) (now (room .exit)) r ⌝ }
 {
-    let a = plan::pairs(card, line, plan, room);
+    let a = check_pairs::pairs(card, line, plan, room);
     pack(a.number, a.count, 0, 0)
 }
 

@@ -20,8 +20,8 @@ use Rattle.layout.specs.Steps.{planBytes, pairsBytes, planSteps, planRoom, step
 use Rattle.layout.specs.Answers.{inputNumber, wordsIn, derivable, refusal, found, ReadAnswer, readAnswer, planPairs, PairsAnswer, pairsAnswer, checkNumber, PlanAfter}
 use Rattle.layout.proofs.Checking.{Derives, steps-bytes, check-complete, derives-length}
 use Rattle.layout.proofs.Packing.{read-fits, pairs-fit}
-use Rattle.plan.specs.Paired.{Pairs}
-use Rattle.plan.specs.declared.Paired.{Paired}
+use Rattle.check_pairs.specs.Paired.{Pairs}
+use Rattle.check_pairs.specs.declared.Paired.{Paired}
 use Rattle.reader.specs.Read.{answerFrom, Reads}
 use Rattle.reader.specs.declared.read.Answer.{Answer}
 use Rattle.lines_text.specs.Text.{stepLine, stepLines, pairLine, pairLines, readLine, refusedLine, Appends}

@@ -30,7 +30,7 @@ fn put_plan(card: &[u8], line: &[u8], plan: &[u8], out: &mut [u8], at: usize) ->
 {
     let after = text::put_steps(out, at, plan);
     let mut pairs = [0u8; PAIR_ROOM];
-    let paired = plan::pairs(card, line, plan, &mut pairs);
+    let paired = check_pairs::pairs(card, line, plan, &mut pairs);
     let size = 2 * paired.count;
     text::put_pairs(out, after, &pairs[..size])
 }

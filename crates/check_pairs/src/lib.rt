@@ -1,0 +1,49 @@
+// Check and Pairs (document 01, "Check, pairs, name"): a plan is replayed, and its gives are matched with their takes.
+mod matching;
+
+ghost use mathlib.Core.Path.{_≡_};
+ghost use lib.ListN.{length};
+ghost use Rattle.layout.specs.Answers.{checkNumber};
+ghost use Rattle.check_pairs.specs.Paired.{Pairs};
+
+// 0 where the plan, all of it, is a leftmost derivation of the line under the card; the refusals of card and line first, then 34.
+pub fn check(card: &[u8], line: &[u8], plan: &[u8]) -> u64
+    ensures { λ r. ⌜ r ≡ checkNumber (now (card .entry)) (now (line .entry)) (now (plan .entry)) ⌝ }
+{
+    let accepted = line::accept(card, line);
+    let number = accepted.number;
+    if number != 0 {
+        return number;
+    }
+    let words = accepted.words;
+    if !goals::replay::replay(card, &words, accepted.count, plan) {
+        return 34;
+    }
+    0
+}
+
+// A refusal, or 0 with the count of the pairs.
+pub struct Paired {
+    pub number: u64,
+    pub count: usize,
+}
+
+// Writes each give's place and its take's, two bytes a pair, in plan order. Whether the room is enough is known before the first byte
+// is written.
+pub fn pairs(card: &[u8], line: &[u8], plan: &[u8], room: &mut [u8]) -> Paired
+    ensures { λ r. ⌜ Pairs (now (card .entry)) (now (line .entry)) (now (plan .entry)) (now (room .entry)) (now (room .exit)) r ⌝ }
+{
+    let number = check(card, line, plan);
+    if number != 0 {
+        return Paired { number, count: 0 };
+    }
+    let count = matching::gives(card, plan);
+    if room.len() < 2 * count {
+        return Paired {
+            number: 33,
+            count: 0,
+        };
+    }
+    matching::write_pairs(card, plan, count, room);
+    Paired { number: 0, count }
+}
