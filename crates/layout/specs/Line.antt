@@ -55,14 +55,14 @@ isLineByte b = isLetter b || eqb b space
 abbrev pub mostWords : ℕ
 mostWords = 24
 
--- The refusals in their order, each over the whole line; the number is 0 where the line has 1 to 24 known words.
+-- The refusals in their order, each over the whole line: its bytes, and then what its words decide, by their count and by whether the
+-- card has them all. The number is 0 where the line has 1 to 24 known words.
+abbrev pub wordsRefusals : ℕ → Bool → List Refusal
+wordsRefusals count known = unless (leb 1 count) 21 ∷ unless (leb count mostWords) 23 ∷ unless known 24 ∷ []
+
 abbrev pub lineRefusals : List ℕ → List ℕ → List Refusal
 lineRefusals card line = let words = wordsOf line in
-    unless (allBytes isLineByte line) 22
-    ∷ unless (leb 1 (length words)) 21
-    ∷ unless (leb (length words) mostWords) 23
-    ∷ unless (allKnown card words) 24
-    ∷ []
+    unless (allBytes isLineByte line) 22 ∷ wordsRefusals (length words) (allKnown card words)
 
 abbrev pub lineNumber : List ℕ → List ℕ → ℕ
 lineNumber card line = firstRefusal (lineRefusals card line)

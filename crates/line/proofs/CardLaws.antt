@@ -1,44 +1,29 @@
 -- What an accepted card tells of its word table: the tests behind refusals 12 to 14 hold, so the table lies within the card and each
--- entry has 1 to 11 letters, and then zeros.
-use Prim.Native.Nat.{ℕ, _≤_, _<_}
+-- entry has 1 to 11 letters, as many as its spelling.
+use Prim.Native.Nat.{ℕ, _+_, _≤_, _<_}
+use native.Mathlib.Omega.{arith}
 use mathlib.Core.Path.{_≡_}
-use mathlib.Core.Bool.{true}
 use mathlib.Core.List.{List}
-use lib.Dec.{eqb}
-use lib.ListN.{length}
-use Rattle.layout.specs.Bytes.{isLetter, allBytes}
-use Rattle.layout.specs.Card.{nonterminalCount, wordCount, cardLength, spellingLength, spelling, padding, within, entryFits, cardNumber}
-use Rattle.card.proofs.Laws.{both, limits, below-all}
-use Rattle.card.proofs.Accepted.{Accepted, accepted, length-fits}
+use lib.ListN.{length, drop, length-drop}
+use lib.Seq.{length-take-le}
+use Rattle.layout.specs.Card.{wordCount, maxWords, mostLetters, entryAt, spellingLength, spelling, within, entryFits, cardNumber}
+use Rattle.layout.proofs.TestLaws.{both, limits, below-all}
+use Rattle.layout.proofs.Accepting.{accepted-card, accepted-counts, entry-inside}
 
--- One entry.
-pub record Entry (card : List ℕ) (v : ℕ) : Type 0 where
-  pub some-letters : 1 ≤ spellingLength card v
-  pub most-letters : spellingLength card v ≤ 11
-  pub letters : allBytes isLetter (spelling card v) ≡ true
-  pub zeros : allBytes (eqb 0) (padding card v) ≡ true
+pub words-few : (card : List ℕ) → cardNumber card ≡ 0 → wordCount card ≤ maxWords
+words-few card ok = accepted-counts card ok .fewWords
 
-entry-of : (card : List ℕ) (v : ℕ) → entryFits card v ≡ true → Entry card v
-entry-of card v e =
-    let parts = both (within 1 11 (spellingLength card v)) _ e in
-    let size = limits 1 11 (spellingLength card v) (parts .0) in
-    let bytes = both (allBytes isLetter (spelling card v)) (allBytes (eqb 0) (padding card v)) (parts .1) in
-    record { some-letters = size .0; most-letters = size .1; letters = bytes .0; zeros = bytes .1 }
+-- An entry of an accepted card.
+module _ (card : List ℕ) (v : ℕ) (ok : cardNumber card ≡ 0) (h : v < wordCount card) where
+  most-letters : spellingLength card v ≤ mostLetters
+  most-letters =
+      let entry = below-all (wordCount card) (entryFits card) (accepted-card card ok .fit) v h in
+      limits 1 mostLetters (spellingLength card v) (both (within 1 mostLetters (spellingLength card v)) _ entry .0) .1
 
-pub record WordTable (card : List ℕ) : Type 0 where
-  pub some-words : 1 ≤ wordCount card
-  pub most-words : wordCount card ≤ 32
-  pub inside : length card ≡ cardLength card
-  pub entries : (v : ℕ) → v < wordCount card → Entry card v
+  pub spelling-size : length (spelling card v) ≡ spellingLength card v
+  spelling-size =
+      length-take-le (spellingLength card v) (drop (entryAt card v + 1) card)
+      (omega (arith, length-drop (entryAt card v + 1) card, entry-inside card v ok h, most-letters))
 
-pub word-table : (card : List ℕ) → cardNumber card ≡ 0 → WordTable card
-word-table card e =
-    let a : Accepted card = accepted card e in
-    let counts = both (within 1 16 (nonterminalCount card)) _ (a .counted) in
-    let words = limits 1 32 (wordCount card) (both (within 1 32 (wordCount card)) _ (counts .1) .0) in
-    record {
-      some-words = words .0;
-      most-words = words .1;
-      inside = length-fits card (a .measured);
-      entries = λ v h. entry-of card v (below-all (wordCount card) (entryFits card) (a .fit) v h);
-    }
+  pub spelling-fits : length (spelling card v) ≤ mostLetters
+  spelling-fits = omega (arith, spelling-size, most-letters)

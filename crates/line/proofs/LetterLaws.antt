@@ -1,18 +1,17 @@
--- Letters: bytes above the space, so each fits a line and a number's byte; and runs of them, taken byte by byte and one after another.
-use Prim.Native.Nat.{ℕ, zero, suc, _+_, _-_, _≤_, _<_}
+-- Letters: bytes above the space, so each fits a line; and runs of them, taken byte by byte.
+use Prim.Native.Nat.{ℕ, suc, _+_, _-_, _≤_, _<_}
 use native.Mathlib.Omega.{arith}
 use mathlib.Core.Path.{_≡_, refl, sym, _∙_}
 use mathlib.Core.Bool.{Bool, true, false, _&&_, _||_, false≢true}
 use mathlib.Core.List.{List, [], _∷_, _++_}
-use lib.Dec.{leb, lit<}
+use lib.Dec.{leb}
 use lib.ListN.{length, drop, length-take, length-drop, take-append-drop}
-use lib.Seq.{take-suc, take-add, drop-drop, getD-drop}
+use lib.Seq.{take-suc, drop-drop, getD-drop}
 use borrow.Author.Tests.{leb-true, ne-eqb}
 use Rattle.layout.specs.Bytes.{byteAt, isLetter, allBytes}
 use Rattle.layout.specs.Line.{space, isLineByte}
-use Rattle.card.proofs.NumberLaws.{AreBytes}
 use Rattle.line.specs.Words.{part, Letters, PastLetters}
-use Rattle.card.proofs.Laws.{both}
+use Rattle.layout.proofs.TestLaws.{both}
 
 -- The limits of letters and digits together.
 letter-limits : (b : ℕ) → isLetter b ≡ true → (0x30 ≤ b) × (b ≤ 0x7A)
@@ -39,11 +38,6 @@ pub neither-fits : (b : ℕ) → isLetter b ≡ false → (b ≡ space → ⊥) 
 neither-fits b e n = rw (e, ne-eqb b space n)
 
 -- Lists of letters.
-pub letters-bytes : (l : List ℕ) → allBytes isLetter l ≡ true → AreBytes l
-letters-bytes [] e k = lit< tt
-letters-bytes (b ∷ l) e zero = omega (arith, letter-limits b (both (isLetter b) (allBytes isLetter l) e .0) .1)
-letters-bytes (b ∷ l) e (suc k) = letters-bytes l (both (isLetter b) (allBytes isLetter l) e .1) k
-
 all-append : (test : ℕ → Bool) (a b : List ℕ) → allBytes test a ≡ true → allBytes test b ≡ true → allBytes test (a ++ b) ≡ true
 all-append test [] b e f = f
 all-append test (x ∷ a) b e f =
@@ -66,12 +60,6 @@ part-more line start i a h =
     (take-suc (drop start line) (i - start) 0 (omega (arith, length-drop start line))
     ∙ rw (getD-drop start line (i - start) 0, f))
 
-pub part-then : (line : List ℕ) (start i stop : ℕ) → start ≤ i → i ≤ stop → part line start stop ≡ part line start i ++ part line i stop
-part-then line start i stop a b =
-    let e : stop - start ≡ (i - start) + (stop - i) = omega arith in
-    let f : start + (i - start) ≡ i = omega arith in
-    rw e (take-add (i - start) (stop - i) (drop start line) ∙ rw (drop-drop, f))
-
 pub part-rest : (line : List ℕ) (start stop : ℕ) → start ≤ stop → drop start line ≡ part line start stop ++ drop stop line
 part-rest line start stop a =
     let f : start + (stop - start) ≡ stop = omega arith in
@@ -80,16 +68,6 @@ part-rest line start stop a =
 -- Runs of letters.
 pub letters-none : {line : List ℕ} {at : ℕ} → at ≤ length line → Letters line at at
 letters-none {line} {at} h = record { after = omega arith; within = h; letters = rw (part-none line at) }
-
-pub letters-then : {line : List ℕ} {at i stop : ℕ} → Letters line at i → Letters line i stop → Letters line at stop
-letters-then {line} {at} {i} {stop} a b =
-    record {
-      after = omega (arith, a .after, b .after);
-      within = b .within;
-      letters =
-          rw (part-then line at i stop (a .after) (b .after))
-          (all-append isLetter (part line at i) (part line i stop) (a .letters) (b .letters));
-    }
 
 pub letters-more : {line : List ℕ} {at i : ℕ} → Letters line at i → i < length line → isLetter (byteAt line i) ≡ true
     → Letters line at (i + 1)

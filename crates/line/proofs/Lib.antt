@@ -1,10 +1,8 @@
 pub mod CardLaws
 pub mod LetterLaws
 pub mod WordLaws
-pub mod PackLaws
-pub mod KeyLaws
 pub mod LookupLaws
 pub mod NumberLaws
 pub mod RefusalLaws
-pub mod AcceptedLaws
 pub mod PassLaws
+pub mod AcceptedLaws

@@ -1,5 +1,5 @@
--- Looking a word up entry by entry: the word's number is its place among the entries from `next` on, and one entry is compared with
--- the word by its key and then byte by byte. So a mismatch passes the entry over, and a comparison that comes to the end has found it.
+-- Looking a word up entry by entry: the word's number is its place among the entries from `next` on, and one entry is compared with the
+-- word byte by byte, if it is as long. So a mismatch passes the entry over, and a comparison that comes to the end has found it.
 use Prim.Native.Nat.{ℕ, zero, suc, _+_, _-_, _≤_, _<_}
 use native.Mathlib.Numerals.{add-one}
 use native.Mathlib.Omega.{arith}
@@ -7,18 +7,16 @@ use mathlib.Core.Path.{_≡_, refl, sym, _∙_}
 use mathlib.Core.Bool.{Bool, true, false}
 use mathlib.Core.List.{List, map}
 use mathlib.Core.Option.{Option, none, some}
-use lib.ListN.{length, take, drop, drop-of-length-le}
+use lib.ListN.{length, drop, drop-of-length-le}
 use lib.Seq.{drop-cons, getD-take, getD-drop}
 use borrow.Author.Tests.{eq-eqb, ne-eqb}
 use Rattle.grammar.proofs.StandsLaws.{none-some, some-same}
 use Rattle.layout.specs.Bytes.{byteAt, sameBytes, counted}
-use Rattle.layout.specs.Card.{wordCount, entryAt, spellingLength, spelling, cardNumber}
+use Rattle.layout.specs.Card.{wordCount, maxWords, entryAt, entryLength, spellingLength, spelling, cardNumber}
 use Rattle.layout.specs.Line.{placeOf, numberOfWord}
-use Rattle.card.specs.Numbers.{numberOf}
-use Rattle.card.proofs.NumberLaws.{AreBytes}
-use Rattle.line.specs.Packed.{keyOf}
-use Rattle.line.proofs.CardLaws.{WordTable, word-table}
-use Rattle.line.proofs.KeyLaws.{entry-inside, spelling-size, spelling-fits, other-key, key-size, key-front}
+use Rattle.layout.proofs.TestLaws.{same-length}
+use Rattle.layout.proofs.Accepting.{entry-inside}
+use Rattle.line.proofs.CardLaws.{words-few, spelling-size, spelling-fits}
 
 -- Two lists of bytes, compared from a place on.
 module _ (a b : List ℕ) (i : ℕ) where
@@ -35,9 +33,9 @@ module _ (a b : List ℕ) (i : ℕ) where
   all-agree g h = rw (drop-of-length-le a {i = i} g, drop-of-length-le b {i = i} h)
 
 spelling-byte : (card : List ℕ) (k i : ℕ) → i < spellingLength card k
-    → byteAt (spelling card k) i ≡ byteAt card (entryAt k + 1 + i)
+    → byteAt (spelling card k) i ≡ byteAt card (entryAt card k + 1 + i)
 spelling-byte card k i h =
-    getD-take (spellingLength card k) (drop (entryAt k + 1) card) i 0 h ∙ getD-drop (entryAt k + 1) card i 0
+    getD-take (spellingLength card k) (drop (entryAt card k + 1) card) i 0 h ∙ getD-drop (entryAt card k + 1) card i 0
 
 -- The number of a word among n entries, the first of which is entry k.
 abbrev placeFrom : List ℕ → List ℕ → ℕ → ℕ → Option ℕ
@@ -87,10 +85,10 @@ pub record Turn (card word : List ℕ) (k : ℕ) : Type 0 where
   pub looking : Looking card word k
 
 module _ {card word : List ℕ} {k : ℕ} (t : Turn card word k) where
-  pub turn-few : k < 32
-  turn-few = let words : WordTable card = word-table card (t .accepted) in omega arith
+  pub turn-few : k < maxWords
+  turn-few = omega (arith, words-few card (t .accepted), t .counted)
 
-  pub turn-inside : entryAt k + 12 ≤ length card
+  pub turn-inside : entryAt card k + entryLength ≤ length card
   turn-inside = entry-inside card k (t .accepted) (t .counted)
 
   split : wordCount card - k ≡ suc (wordCount card - (k + 1))
@@ -111,41 +109,39 @@ module _ {card word : List ℕ} {k : ℕ} (t : Turn card word k) where
         miss = λ g. absurd (omega (arith, t .counted));
       }
 
-  -- The entry's first 8 bytes as x, and the word's key.
-  module _ {x key : ℕ} (first : x ≡ numberOf (take 8 (drop (entryAt k) card))) (of : key ≡ keyOf word) where
-    pub turn-other : (x ≡ key → ⊥) → Looking card word (k + 1)
-    turn-other n = turn-missed (other-key card k (t .accepted) (t .counted) word λ e. n (first ∙ e ∙ sym of))
+  -- The entry's length byte as n.
+  module _ {n : ℕ} (first : n ≡ spellingLength card k) where
+    size : n ≡ length (spelling card k)
+    size = first ∙ sym (spelling-size card k (t .accepted) (t .counted))
 
-    pub comparing-first : AreBytes word → x ≡ key → Comparing card word k 7
-    comparing-first bytes e =
-        let same = sym first ∙ e ∙ of in
-        record {
-          size = key-size card k (t .accepted) (t .counted) word same;
-          left = key-front card k (t .accepted) (t .counted) word same bytes;
-        }
+    pub turn-other : (n ≡ length word → ⊥) → Looking card word (k + 1)
+    turn-other ne = turn-missed (sym (same-length word (spelling card k) λ e. ne (size ∙ sym e)))
+
+    pub comparing-first : n ≡ length word → Comparing card word k 0
+    comparing-first e = record { size = sym e ∙ size; left = refl }
 
   module _ {i : ℕ} (c : Comparing card word k i) where
     pub all-bytes : length word ≤ i → Placed card word k
     all-bytes g = placed-here (c .left ∙ all-agree word (spelling card k) i g (omega (arith, c .size)))
 
     module _ (g : i < length word) where
-      pub byte-inside : entryAt k + 1 + i < length card
+      pub byte-inside : entryAt card k + 1 + i < length card
       byte-inside = omega (arith, turn-inside, c .size, spelling-fits card k (t .accepted) (t .counted))
 
       in-spelling : i < length (spelling card k)
       in-spelling = omega (arith, c .size)
 
-      byte-is : byteAt (spelling card k) i ≡ byteAt card (entryAt k + 1 + i)
+      byte-is : byteAt (spelling card k) i ≡ byteAt card (entryAt card k + 1 + i)
       byte-is = spelling-byte card k i (omega (arith, in-spelling, spelling-size card k (t .accepted) (t .counted)))
 
-      pub comparing-on : byteAt card (entryAt k + 1 + i) ≡ byteAt word i → Comparing card word k (i + 1)
+      pub comparing-on : byteAt card (entryAt card k + 1 + i) ≡ byteAt word i → Comparing card word k (i + 1)
       comparing-on e =
           record {
             size = c .size;
             left = c .left ∙ byte-agrees word (spelling card k) i g in-spelling (sym e ∙ sym byte-is);
           }
 
-      pub other-byte : (byteAt card (entryAt k + 1 + i) ≡ byteAt word i → ⊥) → Looking card word (k + 1)
+      pub other-byte : (byteAt card (entryAt card k + 1 + i) ≡ byteAt word i → ⊥) → Looking card word (k + 1)
       other-byte n =
           turn-missed (c .left ∙ byte-differs word (spelling card k) i g in-spelling (λ e. n (sym byte-is ∙ sym e)))
 

@@ -1,34 +1,35 @@
 -- The one pass over a line: n words stand before `at`, every byte before it fits, and the words are numbered while there is room. At the
 -- end the verdict on the words is the answer.
-use Prim.Native.Nat.{ℕ, _+_, _-_, _^_, _≤_, _<_}
+use Prim.Native.Nat.{ℕ, _+_, _≤_, _<_}
 use native.Mathlib.Omega.{arith}
 use mathlib.Core.Path.{_≡_, refl, sym, _∙_, ap, ap₂}
 use mathlib.Core.Bool.{Bool, true, false, cond}
-use mathlib.Core.List.{List, _++_}
+use mathlib.Core.List.{List, [], _∷_}
 use mathlib.Core.Option.{some}
 use lib.Dec.{eqb, leb}
-use lib.ListN.{length, drop, replicate}
+use lib.ListN.{length, drop}
 use borrow.Author.Tests.{eqb-true, leb-true}
-use Rattle.layout.specs.Bytes.{allBytes, check}
-use Rattle.layout.specs.Card.{cardNumber}
-use Rattle.layout.specs.Line.{isLineByte, numberOfWord, numbersOf, allKnown}
+use Rattle.layout.specs.Bytes.{allBytes}
+use Rattle.layout.specs.Refusals.{unless, firstRefusal}
+use Rattle.layout.specs.Card.{maxWords, cardNumber}
+use Rattle.layout.specs.Line.{isLineByte, mostWords, wordsOf, numberOfWord, allKnown}
 use Rattle.layout.specs.Answers.{inputNumber, wordsIn}
+use Rattle.layout.proofs.Accepting.{AcceptedLine, accepted-line}
 use Rattle.line.specs.declared.Accepted.{Accepted}
 use Rattle.line.specs.Words.{WordStarts}
-use Rattle.line.specs.Accepted.{wordsNumber, Verdict, Accepts}
-use Rattle.line.proofs.CardLaws.{WordTable, word-table}
+use Rattle.line.specs.Accepted.{noPlaces, placesOf, wordsNumber, Verdict, Accepts}
+use Rattle.line.proofs.CardLaws.{words-few}
 use Rattle.line.proofs.LookupLaws.{number-below}
-use Rattle.line.proofs.RefusalLaws.{line-decides}
+use Rattle.line.proofs.RefusalLaws.{words-decide}
 use Rattle.line.proofs.WordLaws.{WordEnds, no-bytes, Counted, counted-none, counted-more, counted-all}
-use Rattle.line.proofs.NumberLaws.{numbers, Numbering, numbering-on, known-all, numbered-all}
-use Rattle.line.proofs.AcceptedLaws.{AcceptedLine, accepted-line}
+use Rattle.line.proofs.NumberLaws.{sets, Numbering, numbering-on, known-all, numbered-all}
 
 pub record Passing (card line : List ℕ) (at n : ℕ) (known : Bool) (stored : List ℕ) : Type 0 where
   pub counted : Counted line at n
   pub fits : allBytes isLineByte line ≡ allBytes isLineByte (drop at line)
   pub numbering : n ≤ 24 → Numbering card line at n known stored
 
-pub passing-none : {card line : List ℕ} {at : ℕ} → WordStarts line 0 at → Passing card line at 0 true (replicate 24 0)
+pub passing-none : {card line : List ℕ} {at : ℕ} → WordStarts line 0 at → Passing card line at 0 true noPlaces
 passing-none {card} s =
     record {
       counted = counted-none s;
@@ -36,7 +37,7 @@ passing-none {card} s =
       numbering =
           λ h. record {
             all-known = ap (allKnown card) (s .words);
-            numbered = λ e. ap (numbers card) (s .words);
+            numbered = λ e. ap (sets card) (s .words);
             room = refl;
             zeros = refl;
           };
@@ -53,15 +54,19 @@ passing-more s ends starts noted =
       numbering = λ h. numbering-on (noted h) starts;
     }
 
-pub number-fits : (card word : List ℕ) {v : ℕ} → cardNumber card ≡ 0 → numberOfWord card word ≡ some v → v < 2 ^ 8
-number-fits card word {v} ok e =
-    let table : WordTable card = word-table card ok in
-    omega (arith, table .most-words, number-below card word v e)
+pub number-fits : (card word : List ℕ) {v : ℕ} → cardNumber card ≡ 0 → numberOfWord card word ≡ some v → v < maxWords
+number-fits card word {v} ok e = omega (arith, words-few card ok, number-below card word v e)
 
--- Where a test passes, what comes after it may be said otherwise.
-past-most : (t : Bool) {a b : Bool} → (t ≡ true → a ≡ b) → check t 23 (check a 24 0) ≡ check t 23 (check b 24 0)
-past-most true e = ap (λ (t : Bool). check t 24 0) (e refl)
-past-most false e = refl
+-- Whether words are known matters only where they are not too many.
+known-few : (n : ℕ) {a b : Bool} → (n ≤ mostWords → a ≡ b) → wordsNumber n a ≡ wordsNumber n b
+known-few n {a} {b} e = go (leb 1 n) (leb n mostWords) refl
+  where
+    go : (least most : Bool) → leb n mostWords ≡ most
+        → firstRefusal (unless least 21 ∷ unless most 23 ∷ unless a 24 ∷ [])
+        ≡ firstRefusal (unless least 21 ∷ unless most 23 ∷ unless b 24 ∷ [])
+    go false most f = refl
+    go true false f = refl
+    go true true f = ap (λ (t : Bool). firstRefusal (unless t 24 ∷ [])) (e (leb-true n mostWords f))
 
 where-accepted : (number : ℕ) (c : List ℕ) {a b : List ℕ} → (number ≡ 0 → a ≡ b) → cond (eqb number 0) a c ≡ cond (eqb number 0) b c
 where-accepted number c {a} {b} e = go (eqb number 0) refl
@@ -79,11 +84,10 @@ module _ {card line stored : List ℕ} {at n : ℕ} {known : Bool} (ok : cardNum
   number-is : wordsNumber n known ≡ inputNumber card line
   number-is =
       let fits : allBytes isLineByte line ≡ true = s .fits ∙ no-bytes line at h in
-      let words = past-most (leb n 24) (λ t. sym (known-all (s .numbering (leb-true n 24 t)) h)) in
-      ap (check (leb 1 n) 21) words
-      ∙ sym (line-decides card line ok ∙ rw (fits, ← all-counted))
+      known-few n (λ few. sym (known-all (s .numbering few) h))
+      ∙ sym (words-decide card line ok fits ∙ ap (λ (m : ℕ). wordsNumber m (allKnown card (wordsOf line))) (sym all-counted))
 
-  stored-is : inputNumber card line ≡ 0 → stored ≡ numbersOf card line ++ replicate (24 - wordsIn line) 0
+  stored-is : inputNumber card line ≡ 0 → stored ≡ placesOf card line
   stored-is z =
       let a : AcceptedLine card line = accepted-line card line z in
       let numbering = s .numbering (omega (arith, all-counted, a .most-words)) in
@@ -94,7 +98,7 @@ module _ {card line stored : List ℕ} {at n : ℕ} {known : Bool} (ok : cardNum
       record {
         number = v .number ∙ number-is;
         count = v .counts ∙ ap₂ (λ (number count : ℕ). cond (eqb number 0) count 0) number-is all-counted;
-        words =
-            v .numbers ∙ ap (λ (number : ℕ). cond (eqb number 0) stored (replicate 24 0)) number-is
-            ∙ where-accepted (inputNumber card line) (replicate 24 0) stored-is;
+        places =
+            v .placed ∙ ap (λ (number : ℕ). cond (eqb number 0) stored noPlaces) number-is
+            ∙ where-accepted (inputNumber card line) noPlaces stored-is;
       }

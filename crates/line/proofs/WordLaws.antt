@@ -14,7 +14,7 @@ use Rattle.layout.specs.Bytes.{byteAt, isLetter, allBytes}
 use Rattle.layout.specs.Line.{space, isLineByte, ended, wordsFrom, wordsOf}
 use Rattle.layout.specs.Answers.{wordsIn}
 use Rattle.line.specs.Words.{part, WordStarts, Letters, PastLetters}
-use Rattle.card.proofs.Laws.{both}
+use Rattle.layout.proofs.TestLaws.{both}
 use Rattle.line.proofs.LetterLaws.{letter-no-space, letter-fits, neither-fits, part-length, part-rest}
 
 -- One byte of a line, with the word that has been begun.

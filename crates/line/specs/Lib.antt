@@ -1,4 +1,3 @@
 pub mod Words
-pub mod Packed
 pub mod Lookup
 pub mod Accepted

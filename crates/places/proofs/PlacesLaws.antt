@@ -1,6 +1,6 @@
 -- The test of places that have one word each, and none past them, is the test of the list of these words: by going down the list, with
 -- the set of one number at each place.
-use Prim.Native.Nat.{ℕ, zero, suc, _^_}
+use Prim.Native.Nat.{ℕ, zero, suc}
 use mathlib.Core.Path.{_≡_, refl, _∙_, ap, fun-ext}
 use mathlib.Core.List.{List, [], _∷_, _++_, map}
 use mathlib.Core.Bool.{false}
@@ -8,11 +8,7 @@ use lib.ListN.{getD, replicate}
 use Rattle.grammar.specs.Input.{wordIs}
 use Rattle.bits.specs.Bits.{holdsBit}
 use Rattle.bits.proofs.BitLaws.{bitOf-zero, one-holds}
-use Rattle.places.specs.Places.{wordTest}
-
--- The set of one word.
-abbrev pub onlyWord : ℕ → ℕ
-onlyWord v = 2 ^ v
+use Rattle.places.specs.Places.{wordTest, onlyWord}
 
 zeros-empty : (n i w : ℕ) → wordTest (replicate n 0) i w ≡ false
 zeros-empty zero i w = rw (bitOf-zero w)

@@ -13,11 +13,11 @@ refused-requires c κs = tt
 returns : tie.Need-returns
 returns c = refuses-card (c .before .before .card-number .ensures) (c .before .if1 .taken) (c .refused .ensures)
 
-numbered-requires : tie.Need-numbered-requires
-numbered-requires c κs = sym (c .before .card-number .ensures) ∙ c .if1 .left
+accept-line-requires : tie.Need-accept-line-requires
+accept-line-requires c κs = sym (c .before .card-number .ensures) ∙ c .if1 .left
 
 returns-2 : tie.Need-returns-2
-returns-2 c = c .numbered .ensures
+returns-2 c = c .accept-line .ensures
 
 pub accept-spec : {M : Type 1} → statement M
 accept-spec =
@@ -26,5 +26,5 @@ accept-spec =
     card-number-requires
     refused-requires
     returns
-    numbered-requires
+    accept-line-requires
     returns-2)

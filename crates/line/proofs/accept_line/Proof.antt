@@ -7,44 +7,48 @@ use mathlib.Core.Path.{_≡_, sym, _∙_, ap, subst₂}
 use mathlib.Core.Bool.{Bool}
 use mathlib.Core.List.{List}
 use borrow.Author.Needs.{needs}
-use lib.ListN.{length}
+use lib.ListN.{length, set}
 use Rattle.layout.specs.Card.{cardNumber}
+use Rattle.card.specs.View.{ViewOf}
 use Rattle.line.specs.Words.{part}
 use Rattle.line.specs.Lookup.{lookupFrom}
 use Rattle.line.proofs.WordLaws.{WordEnds, ends-at-space, ends-with-line, byte-refused, less-left}
 use Rattle.line.proofs.NumberLaws.{Numbering, numbering-known, numbering-unknown}
 use Rattle.line.proofs.RefusalLaws.{refuses-byte}
 use Rattle.line.proofs.PassLaws.{Passing, passing-none, passing-more, number-fits, passed}
-use Rattle.line.proofs.numbered.Statement.{statement}
-use Rattle.line.proofs.numbered.Tie as tie
+use Rattle.line.proofs.accept_line.Statement.{statement}
+use Rattle.line.proofs.accept_line.Tie as tie
 
 abbrev Inv-loop : tie.InvT-loop
-Inv-loop card line words₀ count₀ known₀ at₀ words count known at = Passing card line at count known words
+Inv-loop card line view places₀ count₀ known₀ at₀ places count known at = Passing card line at count known places × ViewOf card view
 
 abbrev μ-loop : tie.MeasureT-loop
-μ-loop card line words₀ count₀ known₀ at₀ words count known at = length line - at
+μ-loop card line view places₀ count₀ known₀ at₀ places count known at = length line - at
 
 -- The inputs and the word at hand.
-abbrev cardOf : tie.After-word-at Inv-loop μ-loop → List ℕ
-cardOf w = w .before .before .before .before .before .before .args .card .now
+abbrev cardOf : tie.After-word-end Inv-loop μ-loop → List ℕ
+cardOf w = w .before .before .before .before .before .before .before .args .card .now
 
-abbrev lineOf : tie.After-word-at Inv-loop μ-loop → List ℕ
-lineOf w = w .before .before .before .before .before .before .args .line .now
+abbrev lineOf : tie.After-word-end Inv-loop μ-loop → List ℕ
+lineOf w = w .before .before .before .before .before .before .before .args .line .now
 
-abbrev wordOf : tie.After-word-at Inv-loop μ-loop → List ℕ
-wordOf w = part (lineOf w) (w .before .before .loop .at) (w .word-at .result .end)
+abbrev wordOf : tie.After-word-end Inv-loop μ-loop → List ℕ
+wordOf w = part (lineOf w) (w .before .before .loop .at) (w .word-end .result)
 
-accepted : (w : tie.After-word-at Inv-loop μ-loop) → cardNumber (cardOf w) ≡ 0
-accepted w = w .before .before .before .before .before .before .pre
+accepted : (w : tie.After-word-end Inv-loop μ-loop) → cardNumber (cardOf w) ≡ 0
+accepted w = w .before .before .before .before .before .before .before .pre
+
+of-requires : tie.Need-of-requires Inv-loop μ-loop
+of-requires c κs = tt
 
 word-start-requires : tie.Need-word-start-requires Inv-loop μ-loop
 word-start-requires c κs = zero-le
 
 loop-holds : tie.Need-loop-holds Inv-loop μ-loop
-loop-holds c = passing-none (c .word-start .ensures)
+loop-holds c = (passing-none (c .word-start .ensures), c .before .of .ensures)
 
-word-at-requires : tie.Need-word-at-requires Inv-loop μ-loop
-word-at-requires c κs = c .before .loop .inv .counted .within
+word-end-requires : tie.Need-word-end-requires Inv-loop μ-loop
+word-end-requires c κs = c .before .loop .inv .0 .counted .within
 
 shared-slice-read-if2 : tie.Need-shared-slice-read-if2 Inv-loop μ-loop
 shared-slice-read-if2 c = c .before .if1 .taken
@@ -54,63 +58,66 @@ refused-requires c κs = tt
 
 returns : tie.Need-returns Inv-loop μ-loop
 returns c =
-    let w : tie.After-word-at Inv-loop μ-loop = c .before .before .before .before in
+    let w : tie.After-word-end Inv-loop μ-loop = c .before .before .before .before in
     refuses-byte (accepted w)
-    (w .before .before .loop .inv .fits
-    ∙ byte-refused (w .word-at .ensures .past) (c .before .before .before .if1 .taken) (c .before .if2 .taken))
+    (w .before .before .loop .inv .0 .fits
+    ∙ byte-refused (w .word-end .ensures) (c .before .before .before .if1 .taken) (c .before .if2 .taken))
     (c .refused .ensures)
 
 -- The word has ended, at a space or with the line.
 ends : (c : tie.Joined1 Inv-loop μ-loop)
-    → let w : tie.After-word-at Inv-loop μ-loop = c .before in WordEnds (lineOf w) (w .before .before .loop .at) (w .word-at .result .end)
+    → let w : tie.After-word-end Inv-loop μ-loop = c .before in WordEnds (lineOf w) (w .before .before .loop .at) (w .word-end .result)
 ends c =
-    let w : tie.After-word-at Inv-loop μ-loop = c .before in
-    let letters = w .word-at .ensures .past .taken in
+    let w : tie.After-word-end Inv-loop μ-loop = c .before in
+    let letters = w .word-end .ensures .taken in
     let inside = w .before .loop-test .taken in
     ⊎-elim
-    (λ at. ends-at-space letters (w .before .before .loop .inv .counted .letter inside) (at .0 .taken) (at .2 .left))
+    (λ at. ends-at-space letters (w .before .before .loop .inv .0 .counted .letter inside) (at .0 .taken) (at .2 .left))
     (λ at. ends-with-line letters inside (at .left))
     (c .if1 .came)
 
 sub-look-up : tie.Need-sub-look-up Inv-loop μ-loop
-sub-look-up c = c .before .before .word-at .ensures .past .taken .after
+sub-look-up c = c .before .before .word-end .ensures .taken .after
 
 part-look-up-start : tie.Need-part-look-up-start Inv-loop μ-loop
-part-look-up-start c = c .before .before .word-at .ensures .past .taken .after
+part-look-up-start c = c .before .before .word-end .ensures .taken .after
 
 part-look-up-end : tie.Need-part-look-up-end Inv-loop μ-loop
 part-look-up-end c = ends (c .before) .within
 
 look-up-requires : tie.Need-look-up-requires Inv-loop μ-loop
-look-up-requires c κs = (accepted (c .before .before .before), c .before .before .before .word-at .ensures .key)
+look-up-requires c κs = (accepted (c .before .before .before), c .before .before .before .before .before .loop .inv .1)
 
 enum-known-found : tie.Need-enum-known-found Inv-loop μ-loop
 enum-known-found c = search needs
 
-cast-words : tie.Need-cast-words Inv-loop μ-loop
-cast-words c =
-    let w : tie.After-word-at Inv-loop μ-loop = c .before .before .before .before .before .before .before in
+one-requires : tie.Need-one-requires Inv-loop μ-loop
+one-requires c κs =
+    let w : tie.After-word-end Inv-loop μ-loop = c .before .before .before .before .before .before .before in
     let number = sym (c .before .before .before .look-up .ensures) ∙ ap lookupFrom (c .before .found .given .1) in
-    record { fits = number-fits (cardOf w) (wordOf w) (accepted w) number }
+    number-fits (cardOf w) (wordOf w) (accepted w) number
 
-array-write-words : tie.Need-array-write-words Inv-loop μ-loop
-array-write-words c = c .before .before .before .before .before .if3 .taken
+mul-places : tie.Need-mul-places Inv-loop μ-loop
+mul-places c = omega (arith, c .before .before .before .before .before .before .if3 .taken)
+
+array-write-places : tie.Need-array-write-places Inv-loop μ-loop
+array-write-places c = c .before .before .before .before .before .before .if3 .taken
 
 enum-told : tie.Need-enum-told Inv-loop μ-loop
 enum-told c = search needs
 
 -- What was noted of the word: its number, that it has none, or nothing where there is no room.
 noted : (c : tie.Joined3 Inv-loop μ-loop)
-    → let w : tie.After-word-at Inv-loop μ-loop = c .before .before in
+    → let w : tie.After-word-end Inv-loop μ-loop = c .before .before in
     let n = w .before .before .loop .count + 1 in
-    n ≤ 24 → Numbering (cardOf w) (lineOf w) (w .word-at .result .end) n (c .if3 .known) (c .if3 .words)
+    n ≤ 24 → Numbering (cardOf w) (lineOf w) (w .word-end .result) n (c .if3 .known) (c .if3 .places)
 noted c h =
-    let w : tie.After-word-at Inv-loop μ-loop = c .before .before in
+    let w : tie.After-word-end Inv-loop μ-loop = c .before .before in
     let n = w .before .before .loop .count + 1 in
-    let After : Bool → List ℕ → Type 0 = Numbering (cardOf w) (lineOf w) (w .word-at .result .end) n in
-    let before = w .before .before .loop .inv .numbering (omega (arith, h)) in
+    let After : Bool → List ℕ → Type 0 = Numbering (cardOf w) (lineOf w) (w .word-end .result) n in
+    let before = w .before .before .loop .inv .0 .numbering (omega (arith, h)) in
     ⊎-elim
-    (λ at. subst₂ After (sym (at .7)) (sym (at .6))
+    (λ at. subst₂ After (sym (at .8)) (sym (at .7 ∙ ap (set (w .before .before .loop .places) (w .before .before .loop .count)) (at .6 .ensures)))
     (numbering-known before (ends (c .before)) (at .0 .taken) (sym (at .2 .ensures) ∙ ap lookupFrom (at .4 .given .1))))
     (⊎-elim
     (λ at. subst₂ After (sym (at .6)) (sym (at .5))
@@ -129,24 +136,26 @@ loop-less c = less-left (ends (c .before .before)) (c .word-start2 .ensures)
 
 loop-again : tie.Need-loop-again Inv-loop μ-loop
 loop-again c =
-    passing-more (c .before .before .before .before .before .loop .inv) (ends (c .before .before)) (c .word-start2 .ensures) (noted (c .before))
+    let at = c .before .before .before .before .before in
+    (passing-more (at .loop .inv .0) (ends (c .before .before)) (c .word-start2 .ensures) (noted (c .before)), at .loop .inv .1)
 
 verdict-requires : tie.Need-verdict-requires Inv-loop μ-loop
 verdict-requires c κs = tt
 
 returns-2 : tie.Need-returns-2 Inv-loop μ-loop
 returns-2 c =
-    passed (c .before .before .before .before .before .before .pre) (c .before .before .loop .inv) (c .before .loop-test .left) (c .verdict .ensures)
+    passed (c .before .before .before .before .before .before .before .pre) (c .before .before .loop .inv .0) (c .before .loop-test .left) (c .verdict .ensures)
 
-pub numbered-spec : {M : Type 1} → statement M
-numbered-spec =
+pub accept-line-spec : {M : Type 1} → statement M
+accept-line-spec =
     tie.close
     (tie.spec
     Inv-loop
     μ-loop
+    of-requires
     word-start-requires
     loop-holds
-    word-at-requires
+    word-end-requires
     shared-slice-read-if2
     refused-requires
     returns
@@ -155,8 +164,9 @@ numbered-spec =
     part-look-up-end
     look-up-requires
     enum-known-found
-    cast-words
-    array-write-words
+    one-requires
+    mul-places
+    array-write-places
     enum-told
     add-count
     word-start-requires-2

@@ -1,8 +1,8 @@
 -- Each test that fails is the condition of its refusal, with those before it known to pass.
 use borrow.Author.Tests.{not-true, not-false}
 use Rattle.line.proofs.RefusalLaws.{none-verdict, many-verdict, unknown-verdict, known-verdict}
-use Rattle.line.proofs.verdict.Statement.{statement}
-use Rattle.line.proofs.verdict.Tie as tie
+use Rattle.line.proofs.verdict.verdict.Statement.{statement}
+use Rattle.line.proofs.verdict.verdict.Tie as tie
 
 refused-requires : tie.Need-refused-requires
 refused-requires c κs = tt

@@ -6,8 +6,8 @@ use borrow.Author.Tests.{not-true, not-false}
 use lib.ListN.{length}
 use Rattle.line.specs.Words.{Letters}
 use Rattle.line.proofs.LetterLaws.{letters-none, letters-more, past-here, past-line}
-use Rattle.line.proofs.past_letters.Statement.{statement}
-use Rattle.line.proofs.past_letters.Tie as tie
+use Rattle.line.proofs.cut.word_end.Statement.{statement}
+use Rattle.line.proofs.cut.word_end.Tie as tie
 
 abbrev Inv-loop : tie.InvT-loop
 Inv-loop line at end₀ end = Letters line at end
@@ -42,8 +42,8 @@ loop-again c =
 returns-2 : tie.Need-returns-2 Inv-loop μ-loop
 returns-2 c = past-line (c .before .loop .inv) (c .loop-test .left)
 
-pub past-letters-spec : {M : Type 1} → statement M
-past-letters-spec =
+pub word-end-spec : {M : Type 1} → statement M
+word-end-spec =
     tie.close
     (tie.spec
     Inv-loop

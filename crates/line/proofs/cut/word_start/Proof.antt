@@ -4,8 +4,8 @@ use Prim.Native.Nat.{_-_}
 use borrow.Author.Needs.{needs}
 use lib.ListN.{length}
 use Rattle.line.proofs.WordLaws.{Skipped, skipped-none, skipped-more, starts-at-letter, starts-nowhere}
-use Rattle.line.proofs.word_start.Statement.{statement}
-use Rattle.line.proofs.word_start.Tie as tie
+use Rattle.line.proofs.cut.word_start.Statement.{statement}
+use Rattle.line.proofs.cut.word_start.Tie as tie
 
 abbrev Inv-loop : tie.InvT-loop
 Inv-loop line at i₀ i = Skipped line at i
