@@ -3,27 +3,27 @@
 use Prim.Native.Nat.{ℕ, zero, suc, _+_, _-_, _≤_, _<_}
 use native.Mathlib.Nat.{add-zero}
 use native.Mathlib.Omega.{arith}
-use mathlib.Core.Path.{_≡_, refl, sym, _∙_, ap, fun-ext, subst}
+use mathlib.Core.Path.{_≡_, refl, sym, _∙_, ap, subst}
 use mathlib.Core.Bool.{Bool, true, false, _&&_}
 use mathlib.Core.List.{List, [], _∷_, _++_, map}
 use mathlib.Core.Option.{Option, none, some}
 use lib.Dec.{eqb, ltb}
-use lib.ListN.{length, take, getD, getElem?, length-append}
+use lib.ListN.{length, getD, getElem?, length-append}
 use borrow.Author.Tests.{eq-eqb, ne-eqb, ltb-true}
 use Rattle.grammar.specs.Rewriting.{Rule, Lexical, Spine, Action, Take, Keep, Give}
-use Rattle.grammar.specs.Input.{wordIs}
+use Rattle.places.specs.Places.{wordTest}
 use Rattle.grammar.specs.Plan.{PlanStep, planStep}
 use Rattle.layout.specs.Bytes.{counted}
 use Rattle.layout.specs.Card.{production, productionCount, grammarOf}
-use Rattle.goals.specs.Goals.{Goal, goal, Standing, stuck, standing, topIndex, actionFits, fits, replaced, turnTo, turn, next, Tiled, reached, tiled}
-use Rattle.goals.specs.Shown.{tops, namesOf, indicesOf, Shows, actionOf, CanTake, Room, ShowsAt, Replaced, Within, FirstGoal, fitsTop, stepFrom, Tells, Advanced}
+use Rattle.goals.specs.Goals.{Goal, goal, Standing, stuck, standing, topIndex, actionFits, fits, replaced, turnTo, turn, next}
+use Rattle.goals.specs.Shown.{tops, namesOf, indicesOf, arrays, Shows, actionOf, CanTake, ShowsAt, Replaced, FirstGoal, inSet, fitsTop, stepFrom, Advanced}
 use Rattle.goals.specs.declared.replay.Stand.{Stand}
 use Rattle.goals.specs.declared.replay.Step.{Step}
 use Rattle.goals.specs.declared.replay.Top.{Top}
 use Rattle.goals.specs.declared.replay.Turn.{Turn}
 use Rattle.goals.specs.declared.replay.Turn.the-variants.{Stuck, To}
-use Rattle.goals.proofs.GoalsTest.{both, pair-fits}
-use Rattle.goals.proofs.GoalsTiled.{tiled-few}
+use Rattle.layout.proofs.TestLaws.{both}
+use Rattle.goals.proofs.GoalsTest.{pair-fits}
 use Rattle.goals.proofs.ShownLaws.{tops-length, first-name, first-end, first-base}
 
 -- The production of a number, where the card counts it.
@@ -68,14 +68,8 @@ module _ (at : ℕ → ℕ → Bool) (p i′ k j′ i : ℕ) where
         → turn at o (planStep p i′ k j′) i (goal A s j ∷ rest) ≡ replaced R s i k j rest
     turn-fit o R d e₁ e₂ f = rw d (simp (eq-eqb i′ i e₁, eq-eqb j′ j e₂, f))
 
--- What the code hands to the test is what the model does: the word, the depth, and the index on top, which is looked at only where the goal
--- has one.
-word-here : (words : List ℕ) (n i w : ℕ) → i < n → n ≤ length words → eqb (getD words i 0) w ≡ wordIs (take n words) i w
-word-here words zero i w h l = absurd (omega arith)
-word-here [] (suc n) i w h l = absurd (omega arith)
-word-here (x ∷ words) (suc n) zero w h l = refl
-word-here (x ∷ words) (suc n) (suc i) w h l = word-here words n i w (omega arith) (omega arith)
-
+-- What the code hands to the test is what the model does: the set of words, the depth, and the index on top, which is looked at only where
+-- the goal has one.
 index-here : (R : Rule) (here : ℕ → Bool) (A i k j : ℕ) (s below : List ℕ)
     → fits R here A (length s) (topIndex (s ++ below)) i k j ≡ fits R here A (length s) (topIndex s) i k j
 index-here R here A i k j (x ∷ s) below = refl
@@ -84,16 +78,11 @@ index-here (Spine A′ (Take γ) before D after) here A i k j [] below = refl
 index-here (Spine A′ Keep before D after) here A i k j [] below = refl
 index-here (Spine A′ (Give γ) before D after) here A i k j [] below = refl
 
-fits-read : (R : Rule) (words : List ℕ) (n i k A j : ℕ) (s below : List ℕ) (name depth index start end : ℕ) → name ≡ A → depth ≡ length s
-    → index ≡ topIndex (s ++ below) → start ≡ i → end ≡ j → i < n → n ≤ length words
-    → fits R (eqb (getD words start 0)) name depth index start k end ≡ fits R (wordIs (take n words) i) A (length s) (topIndex s) i k j
-fits-read R words n i k A j s below name depth index start end e₁ e₂ e₃ e₄ e₅ h l =
-    rw (e₁, e₂, e₃, e₄, e₅)
-    (ap (λ (here : ℕ → Bool). fits R here A (length s) (topIndex (s ++ below)) i k j) (fun-ext (λ w. word-here words n i w h l))
-    ∙ index-here R (wordIs (take n words) i) A i k j s below)
-
-tiled-inside : {i n : ℕ} {A j : ℕ} {s : List ℕ} {rest : List Goal} → Tiled i n (goal A s j ∷ rest) → i < n
-tiled-inside (tiled h t) = omega (arith, tiled-few t)
+fits-read : (R : Rule) (places : List ℕ) (i k A j : ℕ) (s below : List ℕ) (name depth index start end : ℕ) → name ≡ A → depth ≡ length s
+    → index ≡ topIndex (s ++ below) → start ≡ i → end ≡ j
+    → fits R (inSet (getD places start 0)) name depth index start k end ≡ fits R (wordTest places i) A (length s) (topIndex s) i k j
+fits-read R places i k A j s below name depth index start end e₁ e₂ e₃ e₄ e₅ =
+    rw (e₁, e₂, e₃, e₄, e₅) (index-here R (wordTest places i) A i k j s below)
 
 no-goals : (names : List ℕ) (count : ℕ) → tops names count ≡ [] → count ≡ 0
 no-goals names count e = sym (tops-length names count) ∙ ap length e
@@ -103,30 +92,30 @@ no-count names count [] e h = refl
 no-count names count (goal A s j ∷ rest) e h =
     let d : count ≡ suc (length (namesOf rest)) = sym (tops-length names count) ∙ ap length e in absurd (omega arith)
 
-module _ (card words : List ℕ) (st : Step) (names ends bases stack : List ℕ) (from : Stand) where
+module _ (card places : List ℕ) (st : Step) (names ends bases stack : List ℕ) (from : Stand) where
   abbrev Refused : Type 0
-  Refused = Advanced card words st names ends bases stack from names ends bases stack Stuck
+  Refused = Advanced card places st (arrays names ends bases stack) from (arrays names ends bases stack) Stuck
 
   pub advanced-none : from .count ≡ 0 → Refused
   advanced-none h = record {
-    told = λ n goals l t x.
-        ap (λ (gs : List Goal). next (grammarOf card) (wordIs (take n words)) (stepFrom st) (standing (from .place) gs))
+    told = λ goals x.
+        ap (λ (gs : List Goal). next (grammarOf card) (wordTest places) (stepFrom st) (standing (from .place) gs))
         (no-count names (from .count) goals (x .shownNames) h);
   }
 
   pub advanced-start : (st .start ≡ from .place → ⊥) → Refused
   advanced-start h = record {
-    told = λ n goals l t x. turn-start (wordIs (take n words)) (st .number) (st .start) (st .split) (st .end) (from .place) _ goals h;
+    told = λ goals x. turn-start (wordTest places) (st .number) (st .start) (st .split) (st .end) (from .place) _ goals h;
   }
 
   pub advanced-missing : productionCount card ≤ st .number → Refused
   advanced-missing h = record {
-    told = λ n goals l t x.
-        turn-none (wordIs (take n words)) (st .number) (st .start) (st .split) (st .end) (from .place) _ goals
+    told = λ goals x.
+        turn-none (wordTest places) (st .number) (st .start) (st .split) (st .end) (from .place) _ goals
         (rule-missing card (st .number) h);
   }
 
-  module _ (has : from .count ≡ 0 → ⊥) (top : Top) (f : FirstGoal names ends bases stack from top) where
+  module _ (has : from .count ≡ 0 → ⊥) (top : Top) (f : FirstGoal (arrays names ends bases stack) from top) where
     -- The arrays show the first goal at their used ends.
     shown-first : {A j : ℕ} {s : List ℕ} {rest : List Goal} → Shows names ends bases stack (from .count) (from .top) (goal A s j ∷ rest)
         → Shows names ends bases stack (suc (from .count - 1)) (from .top) (goal A s j ∷ rest)
@@ -137,72 +126,69 @@ module _ (card words : List ℕ) (st : Step) (names ends bases stack : List ℕ)
     goal-end : {A j : ℕ} {s : List ℕ} {rest : List Goal} → Shows names ends bases stack (from .count) (from .top) (goal A s j ∷ rest) → top .end ≡ j
     goal-end {A} {j} {s} {rest} x = f .end ∙ first-end names ends bases stack (from .count - 1) (from .top) A j s rest (shown-first x)
 
-    goal-fits : (R : Rule) (n : ℕ) {A j : ℕ} {s : List ℕ} {rest : List Goal} → n ≤ length words
-        → Tiled (from .place) n (goal A s j ∷ rest) → Shows names ends bases stack (from .count) (from .top) (goal A s j ∷ rest)
-        → fitsTop R (getD words (top .start) 0) top (st .split)
-        ≡ fits R (wordIs (take n words) (from .place)) A (length s) (topIndex s) (from .place) (st .split) j
-    goal-fits R n {A} {j} {s} {rest} l t x =
+    goal-fits : (R : Rule) {A j : ℕ} {s : List ℕ} {rest : List Goal}
+        → Shows names ends bases stack (from .count) (from .top) (goal A s j ∷ rest)
+        → fitsTop R (getD places (top .start) 0) top (st .split)
+        ≡ fits R (wordTest places (from .place)) A (length s) (topIndex s) (from .place) (st .split) j
+    goal-fits R {A} {j} {s} {rest} x =
         let y = shown-first x in
         let b = first-base names ends bases stack (from .count - 1) (from .top) A j s rest y in
         let d : from .top ≡ length s + length (indicesOf rest) =
         sym (tops-length stack (from .top)) ∙ (ap length (x .shownStack) ∙ length-append s (indicesOf rest)) in
-        fits-read R words n (from .place) (st .split) A j s (indicesOf rest) (top .name) (top .depth) (top .index) (top .start) (top .end)
+        fits-read R places (from .place) (st .split) A j s (indicesOf rest) (top .name) (top .depth) (top .index) (top .start) (top .end)
         (f .name ∙ first-name names ends bases stack (from .count - 1) (from .top) A j s rest y)
-        (omega (arith, f .depth)) (f .index ∙ ap topIndex (x .shownStack)) (f .start) (goal-end x) (tiled-inside t) l
+        (omega (arith, f .depth)) (f .index ∙ ap topIndex (x .shownStack)) (f .start) (goal-end x)
 
     pub advanced-end : st .start ≡ from .place → (st .end ≡ top .end → ⊥) → Refused
-    advanced-end e h = record { told = λ n goals l t x. go n goals l t x }
+    advanced-end e h = record { told = λ goals x. go goals x }
       where
-        go : (n : ℕ) (goals : List Goal) → n ≤ length words → Tiled (from .place) n goals
-            → Shows names ends bases stack (from .count) (from .top) goals
-            → next (grammarOf card) (wordIs (take n words)) (stepFrom st) (standing (from .place) goals) ≡ stuck
-        go n [] l t x = refl
-        go n (goal A s j ∷ rest) l t x =
-            turn-end (wordIs (take n words)) (st .number) (st .start) (st .split) (st .end) (from .place) A j s rest
+        go : (goals : List Goal) → Shows names ends bases stack (from .count) (from .top) goals
+            → next (grammarOf card) (wordTest places) (stepFrom st) (standing (from .place) goals) ≡ stuck
+        go [] x = refl
+        go (goal A s j ∷ rest) x =
+            turn-end (wordTest places) (st .number) (st .start) (st .split) (st .end) (from .place) A j s rest
             (getElem? (grammarOf card) (st .number)) e
             (λ d. h (d ∙ sym (goal-end x)))
 
     module _ (R : Rule) (there : st .number < productionCount card) (r : R ≡ production card (st .number))
         (e₁ : st .start ≡ from .place) (e₂ : st .end ≡ top .end) (k : ℕ) (e₃ : k ≡ st .split) where
       pub advanced-misfit
-          : fitsTop R (getD words (top .start) 0) top k ≡ false
+          : fitsTop R (getD places (top .start) 0) top k ≡ false
           → Refused
-      advanced-misfit m = record { told = λ n goals l t x. go n goals l t x }
+      advanced-misfit m = record { told = λ goals x. go goals x }
         where
-          misfit : fitsTop R (getD words (top .start) 0) top (st .split) ≡ false
+          misfit : fitsTop R (getD places (top .start) 0) top (st .split) ≡ false
           misfit = rw e₃ at m
 
-          go : (n : ℕ) (goals : List Goal) → n ≤ length words → Tiled (from .place) n goals
-              → Shows names ends bases stack (from .count) (from .top) goals
-              → next (grammarOf card) (wordIs (take n words)) (stepFrom st) (standing (from .place) goals) ≡ stuck
-          go n [] l t x = refl
-          go n (goal A s j ∷ rest) l t x =
-              turn-misfit (wordIs (take n words)) (st .number) (st .start) (st .split) (st .end) (from .place) A j s rest (getElem? (grammarOf card) (st .number)) R
-              (rule-there card (st .number) there ∙ ap some (sym r)) e₁ (e₂ ∙ goal-end x) (sym (goal-fits R n l t x) ∙ misfit)
+          go : (goals : List Goal) → Shows names ends bases stack (from .count) (from .top) goals
+              → next (grammarOf card) (wordTest places) (stepFrom st) (standing (from .place) goals) ≡ stuck
+          go [] x = refl
+          go (goal A s j ∷ rest) x =
+              turn-misfit (wordTest places) (st .number) (st .start) (st .split) (st .end) (from .place) A j s rest (getElem? (grammarOf card) (st .number)) R
+              (rule-there card (st .number) there ∙ ap some (sym r)) e₁ (e₂ ∙ goal-end x) (sym (goal-fits R x) ∙ misfit)
 
       pub advanced-fit : (names′ ends′ bases′ stack′ : List ℕ) (to : Stand)
-          → fitsTop R (getD words (top .start) 0) top k ≡ true
-          → Replaced R k names ends bases stack from names′ ends′ bases′ stack′ to
-          → Advanced card words st names ends bases stack from names′ ends′ bases′ stack′ (To to)
-      advanced-fit names′ ends′ bases′ stack′ to m y = record { told = λ n goals l t x. go n goals l t x }
+          → fitsTop R (getD places (top .start) 0) top k ≡ true
+          → Replaced R k (arrays names ends bases stack) from (arrays names′ ends′ bases′ stack′) to
+          → Advanced card places st (arrays names ends bases stack) from (arrays names′ ends′ bases′ stack′) (To to)
+      advanced-fit names′ ends′ bases′ stack′ to m y = record { told = λ goals x. go goals x }
         where
-          fit : fitsTop R (getD words (top .start) 0) top (st .split) ≡ true
+          fit : fitsTop R (getD places (top .start) 0) top (st .split) ≡ true
           fit = rw e₃ at m
 
-          done : Replaced R (st .split) names ends bases stack from names′ ends′ bases′ stack′ to
+          done : Replaced R (st .split) (arrays names ends bases stack) from (arrays names′ ends′ bases′ stack′) to
           done = rw e₃ at y
 
-          go : (n : ℕ) (goals : List Goal) → n ≤ length words → Tiled (from .place) n goals
-              → Shows names ends bases stack (from .count) (from .top) goals
+          go : (goals : List Goal) → Shows names ends bases stack (from .count) (from .top) goals
               → ShowsAt names′ ends′ bases′ stack′ to
-              (next (grammarOf card) (wordIs (take n words)) (stepFrom st) (standing (from .place) goals))
-          go n [] l t x = absurd (has (no-goals names (from .count) (x .shownNames)))
-          go n (goal A s j ∷ rest) l t x =
-              let e = sym (goal-fits R n l t x) ∙ fit in
+              (next (grammarOf card) (wordTest places) (stepFrom st) (standing (from .place) goals))
+          go [] x = absurd (has (no-goals names (from .count) (x .shownNames)))
+          go (goal A s j ∷ rest) x =
+              let e = sym (goal-fits R x) ∙ fit in
               subst (ShowsAt names′ ends′ bases′ stack′ to)
-              (sym (turn-fit (wordIs (take n words)) (st .number) (st .start) (st .split) (st .end) (from .place) A j s rest (getElem? (grammarOf card) (st .number)) R
+              (sym (turn-fit (wordTest places) (st .number) (st .start) (st .split) (st .end) (from .place) A j s rest (getElem? (grammarOf card) (st .number)) R
               (rule-there card (st .number) there ∙ ap some (sym r)) e₁ (e₂ ∙ goal-end x) e))
-              (done .shown (wordIs (take n words) (from .place)) A s j rest x e)
+              (done .shown (wordTest places (from .place)) A s j rest x e)
 
 -- A production that fits has an index to take, where it takes one.
 can-take : (a : Action) (d γ top : ℕ) → actionFits a d γ ≡ true → d ≤ top → CanTake a top
@@ -210,9 +196,9 @@ can-take (Take γ′) d γ top e h = let (e₁, e₂) = both (ltb 0 d) (eqb γ�
 can-take Keep d γ top e h = tt
 can-take (Give γ′) d γ top e h = tt
 
-pub fits-take : (R : Rule) (word : ℕ) (top : Top) (k indices : ℕ) → fitsTop R word top k ≡ true → top .depth ≤ indices
+pub fits-take : (R : Rule) (here : ℕ) (top : Top) (k indices : ℕ) → fitsTop R here top k ≡ true → top .depth ≤ indices
     → CanTake (actionOf R) indices
-fits-take (Lexical A′ w) word top k indices e h = tt
-fits-take (Spine A′ a before D after) word top k indices e h =
-    let d = pair-fits (eqb word) A′ a before D after (top .name) (top .depth) (top .index) (top .start) k (top .end) e in
+fits-take (Lexical A′ w) here top k indices e h = tt
+fits-take (Spine A′ a before D after) here top k indices e h =
+    let d = pair-fits (inSet here) A′ a before D after (top .name) (top .depth) (top .index) (top .start) k (top .end) e in
     can-take a (top .depth) (top .index) indices (d .3) h

@@ -10,9 +10,9 @@ use lib.Dec.{eqb, ltb}
 use borrow.Author.Tests.{eq-eqb, ne-eqb, lt-ltb, le-ltb, ltb-true}
 use Rattle.grammar.specs.Rewriting.{Rule, Lexical, Spine, Action, Take, Keep, Give}
 use Rattle.goals.specs.Goals.{actionFits, depthAfter, dependentSpan}
-use Rattle.goals.specs.Shown.{splitFitsTop, fitsTop}
+use Rattle.goals.specs.Shown.{inSet, splitFitsTop, fitsTop}
 use Rattle.goals.specs.declared.replay.Top.{Top}
-use Rattle.goals.proofs.GoalsTest.{both}
+use Rattle.layout.proofs.TestLaws.{both}
 
 -- What an action asks, and that it leaves a stack that is less deep than the stretch is long.
 abbrev pub actionPasses : Action → ℕ → ℕ → ℕ → Bool
@@ -50,33 +50,33 @@ module _ (A : ℕ) (top : Top) (k : ℕ) where
       (ltb-true (top .start) k (d .0), ltb-true k (top .end) (d .1))
 
 -- A rule with a dependent.
-module _ {R : Rule} {a : Action} {before after : List ℕ} {A D : ℕ} (word : ℕ) (top : Top) (k : ℕ) (e : R ≡ Spine A a before D after) where
-  pub pair-outside : splitFitsTop A top k ≡ false → false ≡ fitsTop R word top k
+module _ {R : Rule} {a : Action} {before after : List ℕ} {A D : ℕ} (here : ℕ) (top : Top) (k : ℕ) (e : R ≡ Spine A a before D after) where
+  pub pair-outside : splitFitsTop A top k ≡ false → false ≡ fitsTop R here top k
   pair-outside h = rw (e, h)
 
   pub pair-inside : splitFitsTop A top k ≡ true → {b : Bool}
-      → b ≡ actionPasses a (top .depth) (top .index) (dependentSpan before (top .start) k (top .end)) → b ≡ fitsTop R word top k
+      → b ≡ actionPasses a (top .depth) (top .index) (dependentSpan before (top .start) k (top .end)) → b ≡ fitsTop R here top k
   pair-inside h p = rw (e, h) p
 
 -- A word: the tests in the code's order.
-pub word-decided : {R : Rule} {A w : ℕ} (word : ℕ) (top : Top) (k : ℕ) → R ≡ Lexical A w → {b : Bool} → b ≡ fitsTop (Lexical A w) word top k
-    → b ≡ fitsTop R word top k
-word-decided word top k e p = rw e p
+pub word-decided : {R : Rule} {A w : ℕ} (here : ℕ) (top : Top) (k : ℕ) → R ≡ Lexical A w → {b : Bool} → b ≡ fitsTop (Lexical A w) here top k
+    → b ≡ fitsTop R here top k
+word-decided here top k e p = rw e p
 
-module _ (A w word : ℕ) (top : Top) (k : ℕ) where
-  pub word-name : (A ≡ top .name → ⊥) → false ≡ fitsTop (Lexical A w) word top k
+module _ (A w here : ℕ) (top : Top) (k : ℕ) where
+  pub word-name : (A ≡ top .name → ⊥) → false ≡ fitsTop (Lexical A w) here top k
   word-name n = simp (ne-eqb A (top .name) n)
 
   module _ (n : A ≡ top .name) where
-    pub word-stack : (top .depth ≡ 0 → ⊥) → false ≡ fitsTop (Lexical A w) word top k
+    pub word-stack : (top .depth ≡ 0 → ⊥) → false ≡ fitsTop (Lexical A w) here top k
     word-stack d = simp (eq-eqb A (top .name) n, ne-eqb (top .depth) 0 d)
 
     module _ (d : top .depth ≡ 0) where
-      pub word-split : (k ≡ top .end → ⊥) → false ≡ fitsTop (Lexical A w) word top k
+      pub word-split : (k ≡ top .end → ⊥) → false ≡ fitsTop (Lexical A w) here top k
       word-split s = simp (eq-eqb A (top .name) n, eq-eqb (top .depth) 0 d, ne-eqb k (top .end) s)
 
       module _ (s : k ≡ top .end) where
-        pub word-long : (top .end ≡ top .start + 1 → ⊥) → false ≡ fitsTop (Lexical A w) word top k
+        pub word-long : (top .end ≡ top .start + 1 → ⊥) → false ≡ fitsTop (Lexical A w) here top k
         word-long l =
             simp (
               eq-eqb A (top .name) n,
@@ -85,7 +85,7 @@ module _ (A w word : ℕ) (top : Top) (k : ℕ) where
               ne-eqb (top .end) (suc (top .start)) (λ e. l (e ∙ sym (add-one (top .start)))),
             )
 
-        pub word-same : top .end ≡ top .start + 1 → eqb word w ≡ fitsTop (Lexical A w) word top k
+        pub word-same : top .end ≡ top .start + 1 → inSet here w ≡ fitsTop (Lexical A w) here top k
         word-same l =
             simp (
               eq-eqb A (top .name) n,

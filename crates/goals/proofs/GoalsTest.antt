@@ -17,12 +17,8 @@ use Rattle.grammar.proofs.ListLaws.{eqb-self}
 use Rattle.grammar.proofs.StandsLaws.{stands-getElem, getElem-stands}
 use Rattle.grammar.proofs.PlanTest.{passes-sound, passes-complete}
 use Rattle.grammar.proofs.PlanSize.{stack-depth, yields-longer}
+use Rattle.layout.proofs.TestLaws.{both}
 use Rattle.goals.specs.Goals.{Goal, goal, Standing, stuck, standing, topIndex, actionFits, depthAfter, stackAfter, dependentSpan, splitFits, fits, replaced, turnTo, turn, allReached, next, goalsRun, goalsPass}
-
--- Both parts of a passed test.
-pub both : (a b : Bool) → a && b ≡ true → (a ≡ true) × (b ≡ true)
-both true b e = (refl, e)
-both false b e = absurd (false≢true e)
 
 pub no-depth : (s : List ℕ) → length s ≡ 0 → s ≡ []
 no-depth [] e = refl

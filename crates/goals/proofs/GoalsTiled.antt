@@ -12,7 +12,8 @@ use Rattle.grammar.specs.Rewriting.{Rule, Lexical, Spine, Action, Take, Keep, G
 use Rattle.grammar.specs.Plan.{PlanStep, planStep, productionIn}
 use Rattle.goals.specs.Goals.{Goal, goal, Standing, stuck, standing, topIndex, actionFits, depthAfter, stackAfter, dependentSpan, fits, replaced, turnTo, turn, next, Tiled, reached, tiled}
 use Rattle.goals.specs.Shown.{indicesOf}
-use Rattle.goals.proofs.GoalsTest.{both, word-fits, pair-fits}
+use Rattle.layout.proofs.TestLaws.{both}
+use Rattle.goals.proofs.GoalsTest.{word-fits, pair-fits}
 
 abbrev pub TiledAt : ℕ → Standing → Type 0
 TiledAt n stuck = Unit

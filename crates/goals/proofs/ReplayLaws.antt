@@ -8,17 +8,17 @@ use mathlib.Core.Bool.{Bool, true, false}
 use mathlib.Core.List.{List, [], _∷_, _++_}
 use mathlib.Core.Option.{Option, none, some}
 use lib.Dec.{eqb}
-use lib.ListN.{length, take, drop, getD, set, replicate, getElem?, length-append, length-drop, drop-of-length-le}
+use lib.ListN.{length, drop, getD, set, replicate, getElem?, length-append, length-drop, drop-of-length-le}
 use lib.Seq.{drop-cons}
 use borrow.Author.Tests.{eq-eqb, ne-eqb}
 use Rattle.grammar.specs.Rewriting.{Rule}
-use Rattle.grammar.specs.Input.{wordIs}
+use Rattle.places.specs.Places.{wordTest}
 use Rattle.grammar.specs.Plan.{PlanStep, planStep}
 use Rattle.layout.specs.Bytes.{byteAt}
 use Rattle.layout.specs.Card.{grammarOf}
 use Rattle.layout.specs.Steps.{andStep, stepsOf}
 use Rattle.goals.specs.Goals.{Goal, goal, Standing, stuck, standing, allReached, next, goalsRun, goalsStart, replayFrom, Tiled, reached, tiled}
-use Rattle.goals.specs.Shown.{tops, namesOf, indicesOf, basesOf, Shows, ShowsAt, Within, stepFrom, StepAt, Tells, Advanced}
+use Rattle.goals.specs.Shown.{tops, namesOf, indicesOf, arrays, Shows, ShowsAt, Within, stepFrom, StepAt, Tells, Advanced}
 use Rattle.goals.specs.declared.replay.Stand.{Stand}
 use Rattle.goals.specs.declared.replay.Step.{Step}
 use Rattle.goals.specs.declared.replay.Turn.{Turn}
@@ -71,17 +71,17 @@ count-reached names count i (goal A s j ∷ rest) e =
     let d : count ≡ suc (length (namesOf rest)) = sym (tops-length names count) ∙ ap length e in ne-eqb count 0 (λ z. omega arith)
 
 -- What the loop keeps.
-pub record Replaying (card words : List ℕ) (n : ℕ) (plan names ends bases stack : List ℕ) (stand : Stand) (at : ℕ) : Type 0 where
+pub record Replaying (card places : List ℕ) (n : ℕ) (plan names ends bases stack : List ℕ) (stand : Stand) (at : ℕ) : Type 0 where
   pub goals : List Goal
   pub tiles : Tiled (stand .place) n goals
   pub shows : Shows names ends bases stack (stand .count) (stand .top) goals
   pub ahead : at ≤ length plan
-  pub same : replayFrom (grammarOf card) (wordIs (take n words)) (standing (stand .place) goals) (stepsOf (drop at plan))
-      ≡ replayFrom (grammarOf card) (wordIs (take n words)) (goalsStart n) (stepsOf plan)
+  pub same : replayFrom (grammarOf card) (wordTest places) (standing (stand .place) goals) (stepsOf (drop at plan))
+      ≡ replayFrom (grammarOf card) (wordTest places) (goalsStart n) (stepsOf plan)
 
-module _ (card words : List ℕ) (n : ℕ) (plan : List ℕ) where
+module _ (card places : List ℕ) (n : ℕ) (plan : List ℕ) where
   pub replay-start : 0 < n
-      → Replaying card words n plan (replicate 25 0) (set (replicate 25 0) 0 n) (replicate 25 0) (replicate 25 0)
+      → Replaying card places n plan (replicate 25 0) (set (replicate 25 0) 0 n) (replicate 25 0) (replicate 25 0)
       (record { count = 1; top = 0; place = 0 }) 0
   replay-start h = record {
     goals = goal 0 [] n ∷ [];
@@ -100,7 +100,7 @@ module _ (card words : List ℕ) (n : ℕ) (plan : List ℕ) where
     same = refl;
   }
 
-  module _ (names ends bases stack : List ℕ) (stand : Stand) (at : ℕ) (x : Replaying card words n plan names ends bases stack stand at) where
+  module _ (names ends bases stack : List ℕ) (stand : Stand) (at : ℕ) (x : Replaying card places n plan names ends bases stack stand at) where
     -- The goals and indices are few, as they tile the line.
     shown-few : stand .place + stand .count + stand .top ≤ n
     shown-few =
@@ -132,12 +132,12 @@ module _ (card words : List ℕ) (n : ℕ) (plan : List ℕ) where
             omega (arith, length-append s (indicesOf rest))
 
     abbrev Answer : Bool
-    Answer = replayFrom (grammarOf card) (wordIs (take n words)) (goalsStart n) (stepsOf plan)
+    Answer = replayFrom (grammarOf card) (wordTest places) (goalsStart n) (stepsOf plan)
 
     -- Some bytes are left over.
     pub replay-short : at < length plan → length plan - at < 4 → false ≡ Answer
     replay-short h l =
-        ap (replayFrom (grammarOf card) (wordIs (take n words)) (standing (stand .place) (x .goals)))
+        ap (replayFrom (grammarOf card) (wordTest places) (standing (stand .place) (x .goals)))
         (sym (short-rest (drop at plan) (rw length-drop (omega arith)) (rw length-drop l)))
         ∙ x .same
 
@@ -145,42 +145,42 @@ module _ (card words : List ℕ) (n : ℕ) (plan : List ℕ) where
     pub replay-over : length plan ≤ at → eqb (stand .count) 0 ≡ Answer
     replay-over h =
         count-reached names (stand .count) (stand .place) (x .goals) (x .shows .shownNames)
-        ∙ (ap (λ (l : List ℕ). replayFrom (grammarOf card) (wordIs (take n words)) (standing (stand .place) (x .goals)) (stepsOf l))
+        ∙ (ap (λ (l : List ℕ). replayFrom (grammarOf card) (wordTest places) (standing (stand .place) (x .goals)) (stepsOf l))
         (sym (drop-of-length-le plan h))
         ∙ x .same)
 
-    module _ (st : Step) (here : at + 4 ≤ length plan) (s : StepAt plan at st) (words-enough : n ≤ length words)
+    module _ (st : Step) (here : at + 4 ≤ length plan) (s : StepAt plan at st)
         (names′ ends′ bases′ stack′ : List ℕ) (r : Turn)
-        (y : Advanced card words st names ends bases stack stand names′ ends′ bases′ stack′ r) where
-      rest-same : replayFrom (grammarOf card) (wordIs (take n words))
-          (next (grammarOf card) (wordIs (take n words)) (stepFrom st) (standing (stand .place) (x .goals))) (stepsOf (drop (at + 4) plan))
+        (y : Advanced card places st (arrays names ends bases stack) stand (arrays names′ ends′ bases′ stack′) r) where
+      rest-same : replayFrom (grammarOf card) (wordTest places)
+          (next (grammarOf card) (wordTest places) (stepFrom st) (standing (stand .place) (x .goals))) (stepsOf (drop (at + 4) plan))
           ≡ Answer
       rest-same =
-          sym (step-from (grammarOf card) (wordIs (take n words)) (standing (stand .place) (x .goals)) (stepFrom st) (stepsOf (drop (at + 4) plan)))
-          ∙ (ap (replayFrom (grammarOf card) (wordIs (take n words)) (standing (stand .place) (x .goals))) (sym (steps-from plan at st here s))
+          sym (step-from (grammarOf card) (wordTest places) (standing (stand .place) (x .goals)) (stepFrom st) (stepsOf (drop (at + 4) plan)))
+          ∙ (ap (replayFrom (grammarOf card) (wordTest places) (standing (stand .place) (x .goals))) (sym (steps-from plan at st here s))
           ∙ x .same)
 
-      told : Tells names′ ends′ bases′ stack′ r (next (grammarOf card) (wordIs (take n words)) (stepFrom st) (standing (stand .place) (x .goals)))
-      told = y .told n (x .goals) words-enough (x .tiles) (x .shows)
+      told : Tells (arrays names′ ends′ bases′ stack′) r (next (grammarOf card) (wordTest places) (stepFrom st) (standing (stand .place) (x .goals)))
+      told = y .told (x .goals) (x .shows)
 
       pub replay-stuck : r ≡ Stuck → false ≡ Answer
       replay-stuck e =
           let g = grammarOf card in
-          let test = wordIs (take n words) in
+          let test = wordTest places in
           let S = next g test (stepFrom st) (standing (stand .place) (x .goals)) in
-          let d : S ≡ stuck = subst (λ (r : Turn). Tells names′ ends′ bases′ stack′ r S) e told in
+          let d : S ≡ stuck = subst (λ (r : Turn). Tells (arrays names′ ends′ bases′ stack′) r S) e told in
           sym (stuck-from g test (stepsOf (drop (at + 4) plan)))
           ∙ (ap (λ (S : Standing). replayFrom g test S (stepsOf (drop (at + 4) plan))) (sym d) ∙ rest-same)
 
-      pub replay-on : (to : Stand) → r ≡ To to → Replaying card words n plan names′ ends′ bases′ stack′ to (at + 4)
+      pub replay-on : (to : Stand) → r ≡ To to → Replaying card places n plan names′ ends′ bases′ stack′ to (at + 4)
       replay-on to e =
-          let S = next (grammarOf card) (wordIs (take n words)) (stepFrom st) (standing (stand .place) (x .goals)) in
-          go S (subst (λ (r : Turn). Tells names′ ends′ bases′ stack′ r S) e told)
-          (next-tiled (grammarOf card) (wordIs (take n words)) (stepFrom st) n (standing (stand .place) (x .goals)) (x .tiles)) rest-same
+          let S = next (grammarOf card) (wordTest places) (stepFrom st) (standing (stand .place) (x .goals)) in
+          go S (subst (λ (r : Turn). Tells (arrays names′ ends′ bases′ stack′) r S) e told)
+          (next-tiled (grammarOf card) (wordTest places) (stepFrom st) n (standing (stand .place) (x .goals)) (x .tiles)) rest-same
         where
           go : (S : Standing) → ShowsAt names′ ends′ bases′ stack′ to S → TiledAt n S
-              → replayFrom (grammarOf card) (wordIs (take n words)) S (stepsOf (drop (at + 4) plan)) ≡ Answer
-              → Replaying card words n plan names′ ends′ bases′ stack′ to (at + 4)
+              → replayFrom (grammarOf card) (wordTest places) S (stepsOf (drop (at + 4) plan)) ≡ Answer
+              → Replaying card places n plan names′ ends′ bases′ stack′ to (at + 4)
           go stuck w t d = absurd w
           go (standing i goals) w t d = record {
             goals = goals;

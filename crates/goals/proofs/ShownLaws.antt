@@ -12,7 +12,7 @@ use Rattle.grammar.specs.Rewriting.{Rule, Lexical, Spine, Action, Take, Keep, G
 use Rattle.goals.specs.Goals.{Goal, goal, Standing, stuck, standing, topIndex, actionFits, stackAfter, fits, replaced}
 use Rattle.goals.specs.declared.replay.Stand.{Stand}
 use Rattle.goals.proofs.GoalsTest.{no-depth, word-fits, pair-fits}
-use Rattle.goals.specs.Shown.{tops, namesOf, endsOf, indicesOf, basesOf, entries, Shows, Acted, Opened, standOf, ShowsAt, Replaced}
+use Rattle.goals.specs.Shown.{tops, namesOf, endsOf, indicesOf, basesOf, Arrays, arrays, entries, Shows, Acted, Opened, standOf, ShowsAt, Replaced}
 
 pub tops-length : (xs : List ℕ) (n : ℕ) → length (tops xs n) ≡ n
 tops-length xs zero = refl
@@ -136,7 +136,7 @@ module _ (k : ℕ) (names ends bases stack : List ℕ) (from : Stand) (some : 0 
 
   pub replaced-word : {R : Rule} {A′ w : ℕ} {to : Stand} → R ≡ Lexical A′ w
       → to ≡ standOf (from .count - 1) (from .top) (getD ends (from .count - 1) 0)
-      → Replaced R k names ends bases stack from names ends bases stack to
+      → Replaced R k (arrays names ends bases stack) from (arrays names ends bases stack) to
   replaced-word {A′ = A′} {w = w} e d = rw d (record {
     shown = λ here A s j rest x f.
         rw e
@@ -154,7 +154,7 @@ module _ (k : ℕ) (names ends bases stack : List ℕ) (from : Stand) (some : 0 
     opened-shows z = rw (d, o .named, o .ended, o .based, add-one, add-two) (refl, z)
 
     pub replaced-first : {R : Rule} {A′ : ℕ} → R ≡ Spine A′ a (first ∷ []) second [] → base ≡ top′
-        → Replaced R k names ends bases stack from names′ ends′ bases′ stack′ to
+        → Replaced R k (arrays names ends bases stack) from (arrays names′ ends′ bases′ stack′) to
     replaced-first {A′ = A′} e b = record {
       shown = λ here A s j rest x f.
           rw e
@@ -164,7 +164,7 @@ module _ (k : ℕ) (names ends bases stack : List ℕ) (from : Stand) (some : 0 
     }
 
     pub replaced-last : {R : Rule} {A′ : ℕ} → R ≡ Spine A′ a [] first (second ∷ []) → base ≡ getD bases (from .count - 1) 0
-        → Replaced R k names ends bases stack from names′ ends′ bases′ stack′ to
+        → Replaced R k (arrays names ends bases stack) from (arrays names′ ends′ bases′ stack′) to
     replaced-last {A′ = A′} e b = record {
       shown = λ here A s j rest x f.
           rw e

@@ -4,14 +4,15 @@ use Prim.Native.Nat.{ℕ, zero, suc, _+_, _-_, _≤_, _<_}
 use mathlib.Core.Path.{_≡_}
 use mathlib.Core.Bool.{Bool, true}
 use mathlib.Core.List.{List, [], _∷_, _++_}
-use lib.Dec.{eqb}
-use lib.ListN.{length, take, getD, set}
+use lib.ListN.{length, getD, set}
 use Rattle.grammar.specs.Rewriting.{Rule, Lexical, Spine, Action, Take, Keep, Give}
 use Rattle.goals.specs.Goals.{Goal, goal, Standing, stuck, standing, topIndex, actionFits, stackAfter, splitFits, fits, replaced, next, Tiled}
-use Rattle.grammar.specs.Input.{wordIs}
+use Rattle.bits.specs.Bits.{holdsBit}
+use Rattle.places.specs.Places.{wordTest}
 use Rattle.grammar.specs.Plan.{PlanStep, planStep}
 use Rattle.layout.specs.Bytes.{byteAt}
-use Rattle.layout.specs.Card.{grammarOf}
+use Rattle.layout.specs.Card.{grammarOf, cardNumber, productionTable, productionCount}
+use Rattle.goals.specs.declared.replay.Rules.{Rules}
 use Rattle.goals.specs.declared.replay.Stand.{Stand}
 use Rattle.goals.specs.declared.replay.Step.{Step}
 use Rattle.goals.specs.declared.replay.Top.{Top}
@@ -38,6 +39,16 @@ indicesOf (goal A s j ∷ rest) = s ++ indicesOf rest
 abbrev pub basesOf : List Goal → List ℕ
 basesOf [] = []
 basesOf (goal A s j ∷ rest) = length (indicesOf rest) ∷ basesOf rest
+
+-- The four arrays as one value.
+pub record Arrays : Type 0 where
+  pub names : List ℕ
+  pub ends : List ℕ
+  pub bases : List ℕ
+  pub stack : List ℕ
+
+abbrev pub arrays : List ℕ → List ℕ → List ℕ → List ℕ → Arrays
+arrays names ends bases stack = record { names = names; ends = ends; bases = bases; stack = stack }
 
 -- No array runs out: a line has at most 24 words, and there are never more goals or indices than words left.
 abbrev pub entries : ℕ
@@ -92,12 +103,11 @@ ShowsAt names ends bases stack r stuck = ⊥
 ShowsAt names ends bases stack r (standing i goals) = (r .place ≡ i) × Shows names ends bases stack (r .count) (r .top) goals
 
 -- The arrays after a rule that fits has replaced the first goal.
-pub record Replaced (R : Rule) (k : ℕ) (names ends bases stack : List ℕ) (from : Stand) (names′ ends′ bases′ stack′ : List ℕ) (to : Stand)
-    : Type 0 where
+pub record Replaced (R : Rule) (k : ℕ) (old : Arrays) (from : Stand) (new : Arrays) (to : Stand) : Type 0 where
   pub shown : (here : ℕ → Bool) (A : ℕ) (s : List ℕ) (j : ℕ) (rest : List Goal)
-      → Shows names ends bases stack (from .count) (from .top) (goal A s j ∷ rest)
+      → Shows (old .names) (old .ends) (old .bases) (old .stack) (from .count) (from .top) (goal A s j ∷ rest)
       → fits R here A (length s) (topIndex s) (from .place) k j ≡ true
-      → ShowsAt names′ ends′ bases′ stack′ to (replaced R s (from .place) k j rest)
+      → ShowsAt (new .names) (new .ends) (new .bases) (new .stack) to (replaced R s (from .place) k j rest)
 
 -- What the numbers of goals and indices have to be for the code to read the first goal: few, and with a base that the stack has.
 pub record Within (bases : List ℕ) (at : Stand) : Type 0 where
@@ -107,19 +117,22 @@ pub record Within (bases : List ℕ) (at : Stand) : Type 0 where
   pub based : 0 < at .count → getD bases (at .count - 1) 0 ≤ at .top
 
 -- The first goal as the arrays have it.
-pub record FirstGoal (names ends bases stack : List ℕ) (at : Stand) (r : Top) : Type 0 where
-  pub name : r .name ≡ getD names (at .count - 1) 0
-  pub depth : r .depth ≡ at .top - getD bases (at .count - 1) 0
-  pub index : r .index ≡ topIndex (tops stack (at .top))
+pub record FirstGoal (a : Arrays) (at : Stand) (r : Top) : Type 0 where
+  pub name : r .name ≡ getD (a .names) (at .count - 1) 0
+  pub depth : r .depth ≡ at .top - getD (a .bases) (at .count - 1) 0
+  pub index : r .index ≡ topIndex (tops (a .stack) (at .top))
   pub start : r .start ≡ at .place
-  pub end : r .end ≡ getD ends (at .count - 1) 0
+  pub end : r .end ≡ getD (a .ends) (at .count - 1) 0
 
--- The model's tests of it.
+-- The model's tests of it, with the set of the words at its start.
+abbrev pub inSet : ℕ → ℕ → Bool
+inSet set w = holdsBit w set
+
 abbrev pub splitFitsTop : ℕ → Top → ℕ → Bool
 splitFitsTop A top k = splitFits A (top .name) (top .start) k (top .end)
 
 abbrev pub fitsTop : Rule → ℕ → Top → ℕ → Bool
-fitsTop R word top k = fits R (eqb word) (top .name) (top .depth) (top .index) (top .start) k (top .end)
+fitsTop R here top k = fits R (inSet here) (top .name) (top .depth) (top .index) (top .start) k (top .end)
 
 abbrev pub stepFrom : Step → PlanStep
 stepFrom st = planStep (st .number) (st .start) (st .split) (st .end)
@@ -132,12 +145,16 @@ pub record StepAt (plan : List ℕ) (at : ℕ) (st : Step) : Type 0 where
   pub end : st .end ≡ byteAt plan (at + 3)
 
 -- The arrays after one step of a plan.
-abbrev pub Tells : List ℕ → List ℕ → List ℕ → List ℕ → Turn → Standing → Type 0
-Tells names ends bases stack Stuck S = S ≡ stuck
-Tells names ends bases stack (To at) S = ShowsAt names ends bases stack at S
+abbrev pub Tells : Arrays → Turn → Standing → Type 0
+Tells a Stuck S = S ≡ stuck
+Tells a (To at) S = ShowsAt (a .names) (a .ends) (a .bases) (a .stack) at S
 
-pub record Advanced (card words : List ℕ) (st : Step) (names ends bases stack : List ℕ) (from : Stand)
-    (names′ ends′ bases′ stack′ : List ℕ) (r : Turn) : Type 0 where
-  pub told : (n : ℕ) (goals : List Goal) → n ≤ length words → Tiled (from .place) n goals
-      → Shows names ends bases stack (from .count) (from .top) goals
-      → Tells names′ ends′ bases′ stack′ r (next (grammarOf card) (wordIs (take n words)) (stepFrom st) (standing (from .place) goals))
+pub record Advanced (card places : List ℕ) (st : Step) (old : Arrays) (from : Stand) (new : Arrays) (r : Turn) : Type 0 where
+  pub told : (goals : List Goal) → Shows (old .names) (old .ends) (old .bases) (old .stack) (from .count) (from .top) goals
+      → Tells new r (next (grammarOf card) (wordTest places) (stepFrom st) (standing (from .place) goals))
+
+-- The productions of an accepted card: where their table starts, and how many there are.
+pub record RulesOf (card : List ℕ) (r : Rules) : Type 0 where
+  pub accepted : cardNumber card ≡ 0
+  pub starts : r .table ≡ productionTable card
+  pub counted : r .count ≡ productionCount card

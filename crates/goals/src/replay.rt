@@ -1,19 +1,22 @@
 // A plan is replayed on goals (specs/Goals.antt): the nonterminals that are still to be replaced, leftmost on top.
 use card::Action;
+use card::Card;
 use card::Production;
-use card::bytes::wide;
+use octets::wide;
+use places::MOST_WORDS;
 ghost use mathlib.Core.Path.{_≡_};
 ghost use mathlib.Core.Bool.{_&&_};
 ghost use Prim.Native.Nat.{_<_, _≤_, _+_, _-_};
-ghost use lib.ListN.{length, take};
-ghost use Rattle.grammar.specs.Input.{wordIs};
+ghost use lib.ListN.{length};
+ghost use Rattle.places.specs.Places.{wordTest};
 ghost use Rattle.layout.specs.Card.{grammarOf, cardNumber};
 ghost use Rattle.layout.specs.Steps.{stepsOf};
 ghost use lib.Dec.{ltb};
 ghost use Rattle.grammar.specs.Rewriting.{Lexical};
 ghost use Rattle.card.specs.Productions.{actionFrom, ruleFrom};
 ghost use Rattle.goals.specs.Goals as model;
-ghost use Rattle.goals.specs.Shown.{tops, standOf, actionOf, CanTake, Acted, Opened, Room, Replaced, Within, FirstGoal, splitFitsTop, fitsTop, StepAt, Advanced};
+ghost use Rattle.goals.specs.Shown.{tops, arrays, standOf, actionOf, CanTake, Acted, Opened, Room, Replaced};
+ghost use Rattle.goals.specs.Shown.{Within, FirstGoal, splitFitsTop, fitsTop, StepAt, RulesOf, Advanced};
 
 // A step of a plan: the production's number, and its stretch with the split.
 pub struct Step {
@@ -39,12 +42,21 @@ pub struct Stand {
     pub place: usize,
 }
 
+// The productions of a card: where their table starts, and how many there are.
+pub struct Rules {
+    pub table: usize,
+    pub count: usize,
+}
+
+// One entry more than a line has words, so that the next one's place is always there.
+const ENTRIES: usize = MOST_WORDS + 1;
+
 pub enum Turn {
     Stuck,
     To(Stand),
 }
 
-fn word_fits(left: u8, word: u8, top: Top, split: usize, here: u8) -> bool
+fn word_fits(left: u8, word: u8, top: Top, split: usize, here: u32) -> bool
     requires { ⌜ top .start < 256 ⌝ }
     ensures { λ r. ⌜ r ≡ fitsTop (Lexical left word) here top split ⌝ }
 {
@@ -60,13 +72,14 @@ fn word_fits(left: u8, word: u8, top: Top, split: usize, here: u8) -> bool
     if top.end != top.start + 1 {
         return false;
     }
-    here == word
+    bits::has(here, word)
 }
 
 // Does the action fit the stack, and leave one that is less deep than `span`?
 fn action_fits(action: Action, depth: usize, index: u8, span: usize) -> bool
     requires { ⌜ depth < 256 ⌝ }
-    ensures { λ r. ⌜ r ≡ (model.actionFits (actionFrom action) depth index && ltb (model.depthAfter (actionFrom action) depth) span) ⌝ }
+    ensures { λ r. ⌜ r ≡ (model.actionFits (actionFrom action) depth index
+        && ltb (model.depthAfter (actionFrom action) depth) span) ⌝ }
 {
     match action {
         Action::Take(g) => {
@@ -96,7 +109,7 @@ fn split_fits(left: u8, top: Top, split: usize) -> bool
     split < top.end
 }
 
-fn fits(production: Production, top: Top, split: usize, here: u8) -> bool
+fn fits(production: Production, top: Top, split: usize, here: u32) -> bool
     requires { ⌜ (top .start < 256) × (top .depth < 256) ⌝ }
     ensures { λ r. ⌜ r ≡ fitsTop (ruleFrom production) here top split ⌝ }
 {
@@ -128,7 +141,7 @@ fn fits(production: Production, top: Top, split: usize, here: u8) -> bool
 }
 
 // The stack after an action that fits: how many indices it has then.
-fn act(action: Action, stack: &mut [u8; 25], top: usize) -> usize
+fn act(action: Action, stack: &mut [u8; ENTRIES], top: usize) -> usize
     requires { ⌜ (top ≤ 24) × CanTake (actionFrom action) top ⌝ }
     ensures { λ r. ⌜ Acted (actionFrom action) (now (stack .entry)) top (now (stack .exit)) r ⌝ }
 {
@@ -150,9 +163,9 @@ fn stand_at(count: usize, top: usize, place: usize) -> Stand
 
 // Two goals where goal m stood, the first element on top: the second has the end and the base that were there.
 fn open_pair(
-    names: &mut [u8; 25],
-    ends: &mut [usize; 25],
-    bases: &mut [usize; 25],
+    names: &mut [u8; ENTRIES],
+    ends: &mut [usize; ENTRIES],
+    bases: &mut [usize; ENTRIES],
     m: usize,
     first: u8,
     second: u8,
@@ -160,7 +173,8 @@ fn open_pair(
     base: usize,
 )
     requires { ⌜ m < 24 ⌝ }
-    ensures { λ r. ⌜ Opened (now (names .entry)) (now (ends .entry)) (now (bases .entry)) m first second split base (now (names .exit)) (now (ends .exit)) (now (bases .exit)) ⌝ }
+    ensures { λ r. ⌜ Opened (now (names .entry)) (now (ends .entry)) (now (bases .entry)) m first second split base
+        (now (names .exit)) (now (ends .exit)) (now (bases .exit)) ⌝ }
 {
     names[m] = second;
     names[m + 1] = first;
@@ -173,13 +187,15 @@ fn replace(
     production: Production,
     split: usize,
     stand: Stand,
-    names: &mut [u8; 25],
-    ends: &mut [usize; 25],
-    bases: &mut [usize; 25],
-    stack: &mut [u8; 25],
+    names: &mut [u8; ENTRIES],
+    ends: &mut [usize; ENTRIES],
+    bases: &mut [usize; ENTRIES],
+    stack: &mut [u8; ENTRIES],
 ) -> Stand
     requires { ⌜ Room (actionOf (ruleFrom production)) (stand .count) (stand .top) ⌝ }
-    ensures { λ r. ⌜ Replaced (ruleFrom production) split (now (names .entry)) (now (ends .entry)) (now (bases .entry)) (now (stack .entry)) stand (now (names .exit)) (now (ends .exit)) (now (bases .exit)) (now (stack .exit)) r ⌝ }
+    ensures { λ r. ⌜ Replaced (ruleFrom production) split
+        (arrays (now (names .entry)) (now (ends .entry)) (now (bases .entry)) (now (stack .entry))) stand
+        (arrays (now (names .exit)) (now (ends .exit)) (now (bases .exit)) (now (stack .exit))) r ⌝ }
 {
     let m = stand.count - 1;
     let top = stand.top;
@@ -210,7 +226,7 @@ fn replace(
 }
 
 // The index on top of all stacks, 0 where there is none.
-fn last(stack: &[u8; 25], top: usize) -> u8
+fn last(stack: &[u8; ENTRIES], top: usize) -> u8
     requires { ⌜ top ≤ 24 ⌝ }
     ensures { λ r. ⌜ r ≡ model.topIndex (tops (now (stack .entry)) top) ⌝ }
 {
@@ -221,14 +237,15 @@ fn last(stack: &[u8; 25], top: usize) -> u8
 }
 
 fn first_goal(
-    names: &[u8; 25],
-    ends: &[usize; 25],
-    bases: &[usize; 25],
-    stack: &[u8; 25],
+    names: &[u8; ENTRIES],
+    ends: &[usize; ENTRIES],
+    bases: &[usize; ENTRIES],
+    stack: &[u8; ENTRIES],
     stand: Stand,
 ) -> Top
     requires { ⌜ (0 < stand .count) × Within (now bases) stand ⌝ }
-    ensures { λ r. ⌜ FirstGoal (now (names .entry)) (now (ends .entry)) (now (bases .entry)) (now (stack .entry)) stand r ⌝ }
+    ensures { λ r. ⌜ FirstGoal
+        (arrays (now (names .entry)) (now (ends .entry)) (now (bases .entry)) (now (stack .entry))) stand r ⌝ }
 {
     let m = stand.count - 1;
     let top = stand.top;
@@ -244,16 +261,19 @@ fn first_goal(
 // One step: it has to be of the first goal's stretch, and its production has to be there and to fit.
 fn advance(
     card: &[u8],
-    words: &[u8; 24],
+    rules: Rules,
+    places: &[u32; MOST_WORDS],
     step: Step,
     stand: Stand,
-    names: &mut [u8; 25],
-    ends: &mut [usize; 25],
-    bases: &mut [usize; 25],
-    stack: &mut [u8; 25],
+    names: &mut [u8; ENTRIES],
+    ends: &mut [usize; ENTRIES],
+    bases: &mut [usize; ENTRIES],
+    stack: &mut [u8; ENTRIES],
 ) -> Turn
-    requires { ⌜ (cardNumber (now card) ≡ 0) × Within (now bases) stand ⌝ }
-    ensures { λ r. ⌜ Advanced (now (card .entry)) (now (words .entry)) step (now (names .entry)) (now (ends .entry)) (now (bases .entry)) (now (stack .entry)) stand (now (names .exit)) (now (ends .exit)) (now (bases .exit)) (now (stack .exit)) r ⌝ }
+    requires { ⌜ RulesOf (now card) rules × Within (now bases) stand ⌝ }
+    ensures { λ r. ⌜ Advanced (now (card .entry)) (now (places .entry)) step
+        (arrays (now (names .entry)) (now (ends .entry)) (now (bases .entry)) (now (stack .entry))) stand
+        (arrays (now (names .exit)) (now (ends .exit)) (now (bases .exit)) (now (stack .exit))) r ⌝ }
 {
     if stand.count == 0 {
         return Turn::Stuck;
@@ -266,13 +286,13 @@ fn advance(
     if wide(step.end) != top.end {
         return Turn::Stuck;
     }
-    // The card's count of productions.
-    if wide(card[7]) <= wide(step.number) {
+    let number = wide(step.number);
+    if rules.count <= number {
         return Turn::Stuck;
     }
-    let production = card::production_in(card, wide(step.number));
+    let production = Card::production(card, rules.table, number);
     let split = wide(step.split);
-    if !fits(production, top, split, words[place]) {
+    if !fits(production, top, split, places[place]) {
         return Turn::Stuck;
     }
     Turn::To(replace(production, split, stand, names, ends, bases, stack))
@@ -291,15 +311,21 @@ pub fn step_at(plan: &[u8], at: usize) -> Step
 }
 
 // Does the plan, all its bytes, derive the line of `n` words? The first step that cannot stand ends it. There are never more goals or
-// indices than words, and the arrays have an entry more, so that the next one's place is always there.
-pub fn replay(card: &[u8], words: &[u8; 24], n: usize, plan: &[u8]) -> bool
-    requires { ⌜ (cardNumber (now card) ≡ 0) × (0 < n) × (n ≤ 24) × (n ≤ length (now words)) ⌝ }
-    ensures { λ r. ⌜ r ≡ model.replayFrom (grammarOf (now (card .entry))) (wordIs (take n (now (words .entry)))) (model.goalsStart n) (stepsOf (now (plan .entry))) ⌝ }
+// indices than words.
+pub fn replay(card: &[u8], places: &[u32; MOST_WORDS], n: usize, plan: &[u8]) -> bool
+    requires { ⌜ (cardNumber (now card) ≡ 0) × (0 < n) × (n ≤ 24) ⌝ }
+    ensures { λ r. ⌜ r ≡ model.replayFrom (grammarOf (now (card .entry))) (wordTest (now (places .entry)))
+        (model.goalsStart n) (stepsOf (now (plan .entry))) ⌝ }
 {
-    let mut names = [0u8; 25];
-    let mut ends = [0usize; 25];
-    let mut bases = [0usize; 25];
-    let mut stack = [0u8; 25];
+    let view = Card::of(card);
+    let rules = Rules {
+        table: view.production_table(),
+        count: view.productions,
+    };
+    let mut names = [0u8; ENTRIES];
+    let mut ends = [0usize; ENTRIES];
+    let mut bases = [0usize; ENTRIES];
+    let mut stack = [0u8; ENTRIES];
     ends[0] = n;
     let mut stand = Stand {
         count: 1,
@@ -314,7 +340,8 @@ pub fn replay(card: &[u8], words: &[u8; 24], n: usize, plan: &[u8]) -> bool
         let step = step_at(plan, at);
         let Turn::To(next) = advance(
             card,
-            words,
+            rules,
+            places,
             step,
             stand,
             &mut names,
