@@ -20,12 +20,9 @@ use Rattle.layout.specs.Card.{grammarOf}
 use Rattle.layout.specs.Line.{numbersOf}
 use Rattle.layout.specs.Steps.{planBytes, stepsOf, andStep, planSteps}
 use Rattle.layout.specs.Answers.{inputNumber, wordsIn, lineTest, HasDerivation, planPasses, checkNumber}
+use Rattle.layout.specs.Derives.{Derives}
 use Rattle.layout.proofs.CardLaws.{card-one-sided}
 use Rattle.layout.proofs.Reading.{count-numbers}
-
--- The steps are a leftmost derivation of the line under the card.
-abbrev pub Derives : List ℕ → List ℕ → List PlanStep → Type 0
-Derives card line plan = LeftmostDerivation (grammarOf card) (Holds (lineTest card line)) (wordsIn line) plan
 
 pub steps-bytes : (plan : List PlanStep) → stepsOf (planBytes plan) ≡ some plan
 steps-bytes [] = refl

@@ -4,4 +4,5 @@ pub mod Line
 pub mod Records
 pub mod Steps
 pub mod Answers
+pub mod Derives
 pub mod Tomato
