@@ -1,30 +1,28 @@
 -- Check's and Pairs' answers at each way that the code ends, with the tests before it as they were decided.
 -- The replay's answer is the plan test's, since the machine on goals is the plan test.
-use Prim.Native.Nat.{ℕ, zero, suc, _+_, _-_, _*_, _≤_, _<_}
+use Prim.Native.Nat.{ℕ, _+_, _-_, _*_, _≤_, _<_}
 use native.Mathlib.Omega.{arith}
-use mathlib.Core.Path.{_≡_, refl, sym, _∙_, ap, subst}
-use mathlib.Core.Bool.{Bool, true, false, cond}
-use mathlib.Core.List.{List, [], _∷_, _++_}
+use mathlib.Core.Path.{_≡_, refl, sym, _∙_, ap}
+use mathlib.Core.Bool.{Bool, true, false}
+use mathlib.Core.List.{List, _++_}
 use mathlib.Core.Option.{Option, none, some}
-use lib.Dec.{eqb, ltb}
-use lib.ListN.{length, take, drop, replicate, length-append, length-replicate}
+use lib.Dec.{eqb}
+use lib.ListN.{length, take, replicate, length-append}
 use lib.Seq.{take-at}
 use borrow.Author.Tests.{eq-eqb, ne-eqb, lt-ltb, le-ltb}
 use Rattle.grammar.specs.Input.{wordIs}
 use Rattle.grammar.specs.Plan.{PlanStep}
-use Rattle.layout.specs.Bytes.{check}
 use Rattle.layout.specs.Card.{grammarOf, cardNumber}
 use Rattle.layout.specs.Line.{numbersOf}
 use Rattle.layout.specs.Steps.{stepsOf}
-use Rattle.layout.specs.Answers.{inputNumber, wordsIn, lineTest, planPasses, checkNumber, planPairs, pairsWithin, pairsAnswer, pairsAfter}
+use Rattle.layout.specs.Answers.{inputNumber, wordsIn, lineTest, planPasses, checkNumber, planPairs, pairsAfter}
 use Rattle.layout.proofs.CardLaws.{card-one-sided}
 use Rattle.layout.proofs.Reading.{count-numbers}
-use Rattle.line.specs.Accepted.{Accepts, acceptedCount, acceptedWords}
+use Rattle.line.specs.Accepted.{Accepts}
 use Rattle.line.specs.declared.Accepted.{Accepted}
 use Rattle.line.proofs.AcceptedLaws.{accepted-line}
 use Rattle.goals.specs.Goals.{goalsStart, replayFrom}
 use Rattle.check_pairs.specs.Paired.{Pairs}
-use Rattle.check_pairs.specs.declared.Paired.{Paired}
 use Rattle.goals.proofs.GoalsTest.{goals-pass}
 use Rattle.layout.proofs.Packing.{input-words}
 

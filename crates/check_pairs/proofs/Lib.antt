@@ -1,4 +1,4 @@
-pub mod SettleLaws
+pub mod StepLaws
 pub mod Paced
 pub mod Passed
 pub mod MatchLaws

@@ -1,24 +1,24 @@
 -- The two loops back over a plan: what is counted, waits and is written belongs to the rest of the plan, from the last step that the loop
 -- has met. One step more in front changes them by its action.
-use Prim.Native.Nat.{ℕ, zero, suc, _+_, _-_, _*_, _/_, _≤_, _<_}
+use Prim.Native.Nat.{ℕ, suc, _+_, _-_, _*_, _/_, _≤_, _<_}
 use native.Mathlib.Omega.{arith}
 use native.Mathlib.Decide.{decLt}
 use mathlib.Core.Path.{_≡_, refl, sym, _∙_, ap, subst}
-use mathlib.Core.List.{List, [], _∷_, _++_, append-nil}
-use mathlib.Core.Option.{Option, none, some}
-use lib.ListN.{length, take, drop, replicate, getElem?, length-append, length-drop, drop-of-length-le, take-append-drop}
+use mathlib.Core.List.{List, [], _∷_, _++_}
+use mathlib.Core.Option.{Option, some}
+use lib.ListN.{length, take, drop, replicate, getElem?, length-append, length-map, length-drop, drop-of-length-le, take-append-drop}
 use lib.Seq.{length-take-le}
 use Rattle.grammar.specs.Rewriting.{Rule, Action, Take, Keep, Give}
-use Rattle.grammar.specs.Lists.{concatMap}
-use Rattle.grammar.specs.Plan.{PlanStep, planStep}
-use Rattle.grammar.specs.Pairs.{Pair, pair, sideStart}
+use Rattle.grammar.specs.Plan.{PlanStep, productionIn}
+use Rattle.grammar.specs.Pairs.{Stretch, sideOf, placeIn, Pair, pair}
+use Rattle.grammar.specs.Matching.{takesAction, takesRule, takesOf, matchedAction, matchedRule, matched, oneGive}
 use Rattle.grammar.proofs.StandsLaws.{none-some, some-same}
-use Rattle.grammar.proofs.PairsLaws.{takesAction, takesRule, takesOf, matchedAction, matchedRule, matched, oneGive}
+use Rattle.grammar.proofs.PairsLaws.{matchedAction-length}
 use Rattle.layout.specs.Card.{production, productionCount, grammarOf}
-use Rattle.layout.specs.Steps.{stepsOf, planBytes, pairBytes, pairsBytes}
+use Rattle.layout.specs.Steps.{stepsOf, pairsBytes}
 use Rattle.layout.specs.Answers.{planPairs, pairsAfter}
-use Rattle.goals.specs.Shown.{tops, actionOf, stepFrom, StepAt}
-use Rattle.check_pairs.specs.Matching.{CanGive, RoomToMatch, Matches, Settled}
+use Rattle.goals.specs.Shown.{actionOf, stepFrom, StepAt}
+use Rattle.check_pairs.specs.Matching.{CanGive, RoomToMatch, held, Matches, Matched}
 use Rattle.check_pairs.specs.declared.matching.Matching.{Matching}
 use Rattle.goals.specs.declared.replay.Step.{Step}
 use Rattle.goals.proofs.ShownLaws.{tops-length}
@@ -27,10 +27,9 @@ use Rattle.check_pairs.proofs.Paced.{Paced, pacedNone, paced, Waits, ta
 use Rattle.check_pairs.proofs.Passed.{planOf, Passed, bytes-length, suffix-step, paced-drop, matched-drop}
 
 -- A step in front of the rest.
-record Front (g : List Rule) (p i k : ℕ) (whole rest : List PlanStep) (R : Rule) : Type 0 where
-  rule : getElem? g p ≡ some R
-  takes : takesOf g whole ≡ takesAction (actionOf R) (sideStart R i k) (takesOf g rest)
-  pairs : matched g whole ≡ matchedAction (actionOf R) (sideStart R i k) (takesOf g rest) (matched g rest)
+record Front (g : List Rule) (st : PlanStep) (whole rest : List PlanStep) (R : Rule) : Type 0 where
+  takes : takesOf g whole ≡ takesAction (actionOf R) (sideOf R st) (takesOf g rest)
+  pairs : matched g whole ≡ matchedAction (actionOf R) (sideOf R st) (takesOf g rest) (matched g rest)
   few : length (takesOf g rest) ≤ 24
   waits : Waits (actionOf R) (takesOf g rest)
 
@@ -38,23 +37,17 @@ paced-few : {g : List Rule} {plan : List PlanStep} → Paced g plan → length (
 paced-few pacedNone = omega arith
 paced-few (paced e l w x) = l
 
-front : {g : List Rule} {p i k j : ℕ} {rest : List PlanStep} {R : Rule} → getElem? g p ≡ some R → Paced g (planStep p i k j ∷ rest)
-    → Front g p i k (planStep p i k j ∷ rest) rest R
-front {g} {p} {i} {k} {j} {rest} {R} e (paced {R = R′} e′ l w x) =
+front : {g : List Rule} {st : PlanStep} {rest : List PlanStep} {R : Rule} → getElem? g (productionIn st) ≡ some R → Paced g (st ∷ rest)
+    → Front g st (st ∷ rest) rest R
+front {g} {st} {rest} {R} e (paced {R = R′} e′ l w x) =
     let q : R′ ≡ R = some-same (sym e′ ∙ e) in
     record {
-      rule = e;
-      takes = ap (λ (o : Option Rule). takesRule o i k (takesOf g rest)) e ∙ takes-rule R i k (takesOf g rest);
-      pairs = ap (λ (o : Option Rule). matchedRule o i k (takesOf g rest) (matched g rest)) e
-          ∙ matched-rule R i k (takesOf g rest) (matched g rest);
+      takes = ap (λ (o : Option Rule). takesRule o st (takesOf g rest)) e ∙ takes-rule R st (takesOf g rest);
+      pairs = ap (λ (o : Option Rule). matchedRule o st (takesOf g rest) (matched g rest)) e
+          ∙ matched-rule R st (takesOf g rest) (matched g rest);
       few = paced-few x;
       waits = subst (λ (R : Rule). Waits (actionOf R) (takesOf g rest)) q w;
     }
-
-gives-length : (a : Action) (place : ℕ) (ts : List ℕ) (xs : List Pair) → length (matchedAction a place ts xs) ≡ oneGive a + length xs
-gives-length (Take γ) place ts xs = omega arith
-gives-length Keep place ts xs = omega arith
-gives-length (Give γ) place ts xs = omega arith
 
 -- The number of a step that has a rule is below the card's count.
 rule-below : (card : List ℕ) (p : ℕ) {R : Rule} → getElem? (grammarOf card) p ≡ some R → p < productionCount card
@@ -63,10 +56,11 @@ rule-below card p e = elim (decLt p (productionCount card)) [
   | no h ↦ absurd (none-some (sym (rule-missing card p (omega arith)) ∙ e))
 ]
 
-paced-rule : {g : List Rule} {p i k j : ℕ} {rest : List PlanStep} → Paced g (planStep p i k j ∷ rest) → (R : Rule) × (getElem? g p ≡ some R)
+paced-rule : {g : List Rule} {st : PlanStep} {rest : List PlanStep} → Paced g (st ∷ rest)
+    → (R : Rule) × (getElem? g (productionIn st) ≡ some R)
 paced-rule (paced {R = R} e l w x) = (R, e)
 
-can-give : (a : Action) (at : Matching) (ts : List ℕ) (done count : ℕ) → Waits a ts → at .waiting ≡ length ts → oneGive a + done ≤ count
+can-give : (a : Action) (at : Matching) (ts : List Stretch) (done count : ℕ) → Waits a ts → at .waiting ≡ length ts → oneGive a + done ≤ count
     → at .unwritten + done ≡ count → CanGive a at
 can-give (Take γ) at ts done count w e h t = tt
 can-give Keep at ts done count w e h t = tt
@@ -89,7 +83,7 @@ module _ (card plan : List ℕ) (x : Passed card plan) where
     step-there = rule-below card (st .number) (paced-rule paced-here .1)
 
     step-back : (R : Rule) → R ≡ production card (st .number)
-        → Front (grammarOf card) (st .number) (st .start) (st .split) (drop s (planOf plan)) (drop (suc s) (planOf plan)) R
+        → Front (grammarOf card) (stepFrom st) (drop s (planOf plan)) (drop (suc s) (planOf plan)) R
     step-back R r = rw here (front (rule-there card (st .number) step-there ∙ ap some (sym r)) paced-here)
 
   -- The steps are a quarter of the bytes.
@@ -118,7 +112,7 @@ module _ (card plan : List ℕ) (x : Passed card plan) where
   counting-turn count left c h st R a r more m l =
       let f = step-back (left - 1) st (omega (arith, c .inPlan)) a R r in
       let e : suc (left - 1) ≡ left = omega arith in
-      let d = ap length (f .pairs) ∙ gives-length (actionOf R) _ _ (matched (grammarOf card) (drop (suc (left - 1)) (planOf plan))) in
+      let d = ap length (f .pairs) ∙ matchedAction-length (actionOf R) _ _ (matched (grammarOf card) (drop (suc (left - 1)) (planOf plan))) in
       let q = ap (λ (s : ℕ). length (matched (grammarOf card) (drop s (planOf plan)))) e in
       record { inPlan = omega (arith, c .inPlan); few = omega (arith, c .few); counted = omega (arith, c .counted) }
 
@@ -130,8 +124,8 @@ module _ (card plan : List ℕ) (x : Passed card plan) where
   -- Writing the pairs.
   pub record Writing (before : List ℕ) (count : ℕ) (takes room : List ℕ) (at : Matching) (left : ℕ) : Type 0 where
     pub inPlan : 4 * left ≤ length plan
-    pub matches : Matches takes room before count at (takesOf (grammarOf card) (drop left (planOf plan)))
-        (matched (grammarOf card) (drop left (planOf plan)))
+    pub matches : Matches before count (takesOf (grammarOf card) (drop left (planOf plan)))
+        (matched (grammarOf card) (drop left (planOf plan))) (held takes room at)
 
   pub writing-start : (before : List ℕ) (count : ℕ) → 2 * count ≤ length before
       → Writing before count (replicate 25 0) before (record { waiting = 0; unwritten = count }) (length plan / 4)
@@ -171,11 +165,11 @@ module _ (card plan : List ℕ) (x : Passed card plan) where
         finish room before (at .unwritten) count xs (planPairs card (stepsOf plan)) d (w .matches .total) e (w .matches .written)
 
     module _ (st : Step) (R : Rule) (h : 0 < left) (a : StepAt plan (4 * (left - 1)) st) (r : R ≡ production card (st .number)) where
-      this : Front (grammarOf card) (st .number) (st .start) (st .split) (drop (left - 1) (planOf plan)) (drop left (planOf plan)) R
+      this : Front (grammarOf card) (stepFrom st) (drop (left - 1) (planOf plan)) (drop left (planOf plan)) R
       this =
           let e : suc (left - 1) ≡ left = omega arith in
           subst
-          (λ (s : ℕ). Front (grammarOf card) (st .number) (st .start) (st .split) (drop (left - 1) (planOf plan)) (drop s (planOf plan)) R)
+          (λ (s : ℕ). Front (grammarOf card) (stepFrom st) (drop (left - 1) (planOf plan)) (drop s (planOf plan)) R)
           e (step-back (left - 1) st (omega (arith, w .inPlan)) a R r)
 
       pub writing-room : count ≡ length (planPairs card (stepsOf plan)) → {b : Action} → b ≡ actionOf R → RoomToMatch b room at
@@ -184,8 +178,9 @@ module _ (card plan : List ℕ) (x : Passed card plan) where
           let m = w .matches in
           let ts = takesOf g (drop left (planOf plan)) in
           let xs = matched g (drop left (planOf plan)) in
-          let k : at .waiting ≡ length ts = sym (tops-length takes (at .waiting)) ∙ ap length (m .shown) in
-          let p = ap length (this .pairs) ∙ gives-length (actionOf R) _ _ xs in
+          let k : at .waiting ≡ length ts =
+          sym (tops-length takes (at .waiting)) ∙ (ap length (m .shown) ∙ length-map ts placeIn) in
+          let p = ap length (this .pairs) ∙ matchedAction-length (actionOf R) _ _ xs in
           let q = matched-drop g (planOf plan) (left - 1) in
           let c : count ≡ length (matched g (planOf plan)) = e ∙ ap length (x .pairs) in
           rw d (record {
@@ -194,8 +189,8 @@ module _ (card plan : List ℕ) (x : Passed card plan) where
             gives = can-give (actionOf R) at ts (length xs) count (this .waits) k (omega arith) (m .total);
           })
 
-      pub writing-turn : (takes′ room′ : List ℕ) (to : Matching) {b : Action} → b ≡ actionOf R → {place : ℕ}
-          → place ≡ sideStart R (st .start) (st .split) → Settled b place takes room at takes′ room′ to
+      pub writing-turn : (takes′ room′ : List ℕ) (to : Matching) {b : Action} → b ≡ actionOf R → {side : Stretch}
+          → side ≡ sideOf R (stepFrom st) → Matched b side (held takes room at) (held takes′ room′ to)
           → Writing before count takes′ room′ to (left - 1)
       writing-turn takes′ room′ to d q y = record {
         inPlan = omega (arith, w .inPlan);

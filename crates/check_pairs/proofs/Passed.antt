@@ -1,31 +1,25 @@
 -- What a plan that passes Check has: an accepted card, bytes that are those of its steps, from any step on, and takes that are paced.
 -- From Check's theorems and the machine on goals; what is said of the rest of a plan is by induction on where it starts.
-use Prim.Native.Nat.{ℕ, zero, suc, _+_, _*_, _≤_, _<_}
+use Prim.Native.Nat.{ℕ, zero, suc, _+_, _*_, _≤_}
 use native.Mathlib.Omega.{arith}
 use mathlib.Core.Path.{_≡_, refl, sym, _∙_, ap, subst}
-use mathlib.Core.Bool.{Bool, true, false, false≢true}
 use mathlib.Core.List.{List, [], _∷_}
 use mathlib.Core.Option.{Option, none, some}
-use lib.Dec.{eqb, leb}
-use lib.ListN.{length, drop, getElem?}
+use lib.ListN.{length, drop}
 use lib.Seq.{drop-nil}
-use borrow.Author.Tests.{eqb-true, eq-eqb, leb-true}
 use Rattle.grammar.specs.Rewriting.{Rule}
-use Rattle.grammar.specs.Input.{Holds}
-use Rattle.grammar.specs.Plan.{PlanStep, planStep, LeftmostDerivation}
-use Rattle.grammar.specs.Pairs.{Pair, pairsOf}
+use Rattle.grammar.specs.Plan.{PlanStep, planStep}
 use Rattle.grammar.proofs.StandsLaws.{some-same}
-use Rattle.grammar.proofs.PairsLaws.{matched, matched-length, giveSteps, countRule, oneGive, pairs-matched}
-use Rattle.layout.specs.Bytes.{check, allBytes}
+use Rattle.grammar.specs.Matching.{matched}
+use Rattle.grammar.proofs.PairsLaws.{matched-length, pairs-matched}
 use Rattle.layout.specs.Card.{cardNumber, grammarOf}
-use Rattle.layout.specs.Line.{wordsOf, isLineByte, allKnown, lineNumber}
 use Rattle.layout.specs.Steps.{planBytes, stepsOf, andStep}
 use Rattle.layout.specs.Answers.{inputNumber, wordsIn, lineTest, checkNumber, planPairs}
 use Rattle.layout.proofs.CardLaws.{card-one-sided}
-use Rattle.layout.proofs.Checking.{Derives, check-sound, steps-bytes}
+use Rattle.layout.specs.Answers.{Derives}
+use Rattle.layout.proofs.Checking.{check-sound, steps-bytes}
 use Rattle.layout.proofs.Packing.{input-words}
 use Rattle.line.proofs.AcceptedLaws.{accepted-line}
-use Rattle.goals.specs.Goals.{goalsStart}
 use Rattle.goals.specs.Shown.{stepFrom, StepAt}
 use Rattle.goals.specs.declared.replay.Step.{Step}
 use Rattle.goals.proofs.GoalsTest.{goals-complete}

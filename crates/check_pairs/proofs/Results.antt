@@ -2,19 +2,21 @@
 -- a step keeps the goals tiled, so they are tiled after any number of steps.
 use Prim.Native.Nat.{ℕ, _*_, _≤_, _<_}
 use native.Mathlib.Omega.{arith}
-use mathlib.Core.Path.{_≡_, sym, _∙_, ap}
+use mathlib.Core.Path.{_≡_, _∙_, ap}
 use mathlib.Core.Bool.{Bool}
 use mathlib.Core.List.{List, [], _∷_}
-use mathlib.Core.Option.{Option, some}
+use mathlib.Core.Option.{some}
 use lib.ListN.{length}
 use Rattle.grammar.specs.Rewriting.{Rule}
 use Rattle.grammar.specs.Plan.{PlanStep}
-use Rattle.grammar.proofs.PairsLaws.{giveSteps, takeSteps, gives-count, takes-gives}
+use Rattle.grammar.specs.Matching.{giveSteps, takeSteps}
+use Rattle.grammar.proofs.PairsLaws.{gives-count, takes-gives}
 use Rattle.layout.specs.Card.{grammarOf}
 use Rattle.layout.specs.Steps.{planBytes, stepsOf, planSteps, planRoom}
 use Rattle.layout.specs.Answers.{wordsIn, checkNumber, planPairs, HasDerivation}
-use Rattle.layout.proofs.Checking.{Derives, check-sound, steps-bytes, derives-length, derives-derivation}
-use Rattle.goals.specs.Goals.{Goal, Standing, stuck, standing, next, goalsStart, Tiled}
+use Rattle.layout.specs.Answers.{Derives}
+use Rattle.layout.proofs.Checking.{check-sound, steps-bytes, derives-length, derives-derivation}
+use Rattle.goals.specs.Goals.{Goal, Standing, next, goalsStart, Tiled}
 use Rattle.goals.specs.Shown.{indicesOf}
 use Rattle.goals.proofs.GoalsTiled.{TiledAt, tiled-start, tiled-few, next-tiled}
 use Rattle.check_pairs.proofs.Passed.{bytes-length}

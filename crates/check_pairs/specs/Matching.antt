@@ -1,16 +1,21 @@
 -- How Pairs goes back over a plan: the place of a take waits until the give before it is met. So a pair is written when its give is met, from
--- the last pair to the first. What is to come out, `takesAction` and `matchedAction`, is the theory's.
+-- the last pair to the first. What is to come out, `takesAction` and `matchedAction`, stands with the grammar.
 use Prim.Native.Nat.{ℕ, _+_, _*_, _≤_, _<_}
 use mathlib.Core.Path.{_≡_}
-use mathlib.Core.List.{List, _++_}
+use mathlib.Core.List.{List, _++_, map}
 use lib.ListN.{length, take, drop}
 use Rattle.grammar.specs.Rewriting.{Action, Take, Keep, Give}
-use Rattle.grammar.specs.Pairs.{Pair}
-use Rattle.grammar.proofs.PairsLaws.{takesAction, matchedAction}
+use Rattle.grammar.specs.Pairs.{Stretch, stretch, placeIn, Pair}
+use Rattle.grammar.specs.Matching.{takesAction, matchedAction}
 use Rattle.layout.specs.Steps.{pairsBytes}
 use Rattle.layout.specs.Answers.{checkNumber}
 use Rattle.goals.specs.Shown.{tops, entries}
 use Rattle.check_pairs.specs.declared.matching.Matching.{Matching}
+use Rattle.check_pairs.specs.declared.matching.Stretch as code
+
+-- The stretch that the code has as two bytes.
+abbrev pub stretchFrom : code.Stretch → Stretch
+stretchFrom s = stretch (s .from) (s .to)
 
 -- The plan passes Check for some line.
 abbrev pub Checked : List ℕ → List ℕ → Type 0
@@ -27,14 +32,24 @@ pub record RoomToMatch (a : Action) (room : List ℕ) (at : Matching) : Type 0 w
   pub inRoom : 2 * at .unwritten ≤ length room
   pub gives : CanGive a at
 
--- The places that wait are ts, and of the pairs, `count` in all, the last ones, xs, are written.
-pub record Matches (takes room before : List ℕ) (count : ℕ) (at : Matching) (ts : List ℕ) (xs : List Pair) : Type 0 where
-  pub allTakes : length takes ≡ entries
-  pub shown : tops takes (at .waiting) ≡ ts
-  pub total : at .unwritten + length xs ≡ count
-  pub within : 2 * count ≤ length before
-  pub written : room ≡ take (2 * at .unwritten) before ++ (pairsBytes xs ++ drop (2 * count) before)
+-- What the pass back has in hand: the array with the places that wait, the room, and how far it is.
+pub record Held : Type 0 where
+  pub takes : List ℕ
+  pub room : List ℕ
+  pub at : Matching
 
-pub record Settled (a : Action) (place : ℕ) (takes room : List ℕ) (from : Matching) (takes′ room′ : List ℕ) (to : Matching) : Type 0 where
-  pub matched : (before : List ℕ) (count : ℕ) (ts : List ℕ) (xs : List Pair) → Matches takes room before count from ts xs
-      → Matches takes′ room′ before count to (takesAction a place ts) (matchedAction a place ts xs)
+abbrev pub held : List ℕ → List ℕ → Matching → Held
+held takes room at = record { takes = takes; room = room; at = at }
+
+-- The places of the sides ts wait, and of the pairs, `count` in all, the last ones, xs, are written over what the room had before.
+pub record Matches (before : List ℕ) (count : ℕ) (ts : List Stretch) (xs : List Pair) (h : Held) : Type 0 where
+  pub allTakes : length (h .takes) ≡ entries
+  pub shown : tops (h .takes) (h .at .waiting) ≡ map placeIn ts
+  pub total : h .at .unwritten + length xs ≡ count
+  pub within : 2 * count ≤ length before
+  pub written : h .room ≡ take (2 * h .at .unwritten) before ++ (pairsBytes xs ++ drop (2 * count) before)
+
+-- One step back: with its action and its side, what waits and is written goes from the rest of the plan to the rest with the step in front.
+pub record Matched (a : Action) (side : Stretch) (from to : Held) : Type 0 where
+  pub matched : (before : List ℕ) (count : ℕ) (ts : List Stretch) (xs : List Pair) → Matches before count ts xs from
+      → Matches before count (takesAction a side ts) (matchedAction a side ts xs) to

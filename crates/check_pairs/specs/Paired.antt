@@ -3,7 +3,7 @@ use Prim.Native.Nat.{ℕ}
 use mathlib.Core.Path.{_≡_}
 use mathlib.Core.List.{List}
 use lib.ListN.{length}
-use Rattle.layout.specs.Answers.{PairsAnswer, pairsAnswer, pairsAfter}
+use Rattle.layout.specs.Answers.{pairsAnswer, pairsAfter}
 use Rattle.check_pairs.specs.declared.Paired.{Paired}
 
 pub record Pairs (card line plan before after : List ℕ) (r : Paired) : Type 0 where

@@ -2,7 +2,6 @@
 mod matching;
 
 ghost use mathlib.Core.Path.{_≡_};
-ghost use lib.ListN.{length};
 ghost use Rattle.layout.specs.Answers.{checkNumber};
 ghost use Rattle.check_pairs.specs.Paired.{Pairs};
 

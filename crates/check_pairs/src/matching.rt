@@ -6,13 +6,13 @@ use goals::replay::step_at;
 ghost use mathlib.Core.Path.{_≡_};
 ghost use Prim.Native.Nat.{_+_, _*_, _≤_};
 ghost use lib.ListN.{length};
-ghost use Rattle.grammar.specs.Pairs.{sideStart};
-ghost use Rattle.grammar.proofs.PairsLaws.{oneGive};
+ghost use Rattle.grammar.specs.Pairs.{stretch, sideOf, placeIn};
+ghost use Rattle.grammar.specs.Matching.{oneGive};
 ghost use Rattle.layout.specs.Steps.{stepsOf};
 ghost use Rattle.layout.specs.Answers.{planPairs, pairsAfter};
 ghost use Rattle.card.specs.Productions.{actionFrom, ruleFrom};
-ghost use Rattle.goals.specs.Shown.{actionOf};
-ghost use Rattle.check_pairs.specs.Matching as model;
+ghost use Rattle.goals.specs.Shown.{actionOf, stepFrom};
+ghost use Rattle.check_pairs.specs.Matching.{stretchFrom, Checked, RoomToMatch, held, Matched};
 
 // How many takes wait for their give, and how many pairs are still to be written.
 pub struct Matching {
@@ -41,25 +41,45 @@ fn action_of(production: Production) -> Action
     }
 }
 
-// The first word of a step's side.
-fn side_start(production: Production, step: Step) -> u8
-    ensures { λ r. ⌜ r ≡ sideStart (ruleFrom production) (step .start) (step .split) ⌝ }
+// A stretch of the line: the words from place `from` up to place `to`.
+pub struct Stretch {
+    pub from: u8,
+    pub to: u8,
+}
+
+// The stretch from one place up to another.
+fn between(from: u8, to: u8) -> Stretch
+    ensures { λ r. ⌜ stretchFrom r ≡ stretch from to ⌝ }
+{
+    Stretch { from, to }
+}
+
+// The side of a step: what lies before the split where the side stands first, and after it where it stands last.
+fn side_of(production: Production, step: Step) -> Stretch
+    ensures { λ r. ⌜ stretchFrom r ≡ sideOf (ruleFrom production) (stepFrom step) ⌝ }
 {
     match production {
-        Production::Word { left: _, word: _ } => step.start,
+        Production::Word { left: _, word: _ } => between(step.start, step.end),
         Production::SideFirst {
             left: _,
             action: _,
             side: _,
             dependent: _,
-        } => step.start,
+        } => between(step.start, step.split),
         Production::SideLast {
             left: _,
             action: _,
             dependent: _,
             side: _,
-        } => step.split,
+        } => between(step.split, step.end),
     }
+}
+
+// What a pair says of a side: its first word.
+fn place_in(side: Stretch) -> u8
+    ensures { λ r. ⌜ r ≡ placeIn (stretchFrom side) ⌝ }
+{
+    side.from
 }
 
 fn one_give(action: Action) -> usize
@@ -73,16 +93,18 @@ fn one_give(action: Action) -> usize
 }
 
 // A take's place waits; a give writes its pair, with the place that came last.
-fn settle(
+fn match_step(
     action: Action,
-    place: u8,
+    side: Stretch,
     takes: &mut [u8; 25],
     room: &mut [u8],
     at: Matching,
 ) -> Matching
-    requires { ⌜ model.RoomToMatch (actionFrom action) (now room) at ⌝ }
-    ensures { λ r. ⌜ model.Settled (actionFrom action) place (now (takes .entry)) (now (room .entry)) at (now (takes .exit)) (now (room .exit)) r ⌝ }
+    requires { ⌜ RoomToMatch (actionFrom action) (now room) at ⌝ }
+    ensures { λ r. ⌜ Matched (actionFrom action) (stretchFrom side) (held (now (takes .entry)) (now (room .entry)) at)
+        (held (now (takes .exit)) (now (room .exit)) r) ⌝ }
 {
+    let place = place_in(side);
     let waiting = at.waiting;
     let unwritten = at.unwritten;
     match action {
@@ -110,7 +132,7 @@ fn settle(
 
 // How many pairs the plan has: its give steps, counted from the last.
 pub fn gives(card: &[u8], plan: &[u8]) -> usize
-    requires { ⌜ model.Checked (now card) (now plan) ⌝ }
+    requires { ⌜ Checked (now card) (now plan) ⌝ }
     ensures { λ r. ⌜ (r ≡ length (planPairs (now (card .entry)) (stepsOf (now (plan .entry))))) × (r ≤ length (now (plan .entry))) ⌝ }
 {
     let mut count = 0;
@@ -126,7 +148,7 @@ pub fn gives(card: &[u8], plan: &[u8]) -> usize
 
 // Writes the pairs, from the last to the first, in one pass back over the plan.
 pub fn write_pairs(card: &[u8], plan: &[u8], count: usize, room: &mut [u8])
-    requires { ⌜ model.Checked (now card) (now plan) ⌝ }
+    requires { ⌜ Checked (now card) (now plan) ⌝ }
     requires { ⌜ (count ≡ length (planPairs (now card) (stepsOf (now plan)))) × (2 * count ≤ length (now room)) ⌝ }
     ensures { λ r. ⌜ now (room .exit) ≡ pairsAfter (planPairs (now (card .entry)) (stepsOf (now (plan .entry)))) (now (room .entry)) ⌝ }
 {
@@ -140,7 +162,7 @@ pub fn write_pairs(card: &[u8], plan: &[u8], count: usize, room: &mut [u8])
         left -= 1;
         let step = step_at(plan, 4 * left);
         let production = card::production_in(card, step.number as usize);
-        let place = side_start(production, step);
-        at = settle(action_of(production), place, &mut takes, room, at);
+        let side = side_of(production, step);
+        at = match_step(action_of(production), side, &mut takes, room, at);
     }
 }

@@ -3,13 +3,13 @@
 use Prim.Native.Nat.{ℕ, _+_, _≤_, _<_}
 use native.Mathlib.Omega.{arith}
 use mathlib.Core.Path.{_≡_, refl, _∙_, subst}
-use mathlib.Core.List.{List, [], _∷_, _++_, tail}
+use mathlib.Core.List.{List, [], _∷_, _++_}
 use lib.ListN.{length}
 use Rattle.grammar.specs.Lists.{Stands, here, there}
-use Rattle.grammar.specs.Rewriting.{Rule, Lexical, Spine, Action, Take, Keep, Give, Symbol, nonterminal, sides, Replaces, lexical, spine}
+use Rattle.grammar.specs.Rewriting.{Rule, Spine, Action, Symbol, nonterminal, sides, Replaces, lexical, spine}
 use Rattle.grammar.specs.Plan.{PlanStep, planStep, firstOf, othersOf, Yields, nothing, reads, replaces, LeftmostDerivation}
 use Rattle.grammar.specs.Pairs.{Stretch, stretch, sideOf, placeIn, Pair, pair, pairsOf}
-use Rattle.grammar.specs.Matching.{takesAction, takesOf, matchedAction, matched, topOf}
+use Rattle.grammar.specs.Matching.{takesAction, takesOf, matchedAction, matched}
 use Rattle.grammar.proofs.StandsLaws.{stands-getElem, stands-unique}
 use Rattle.grammar.proofs.PlanRuns.{total, Shifts, less, same, more, Runs, over, wordStep, spineStep, total-spine, yields-runs}
 use Rattle.grammar.proofs.PairsLaws.{runs-count, pairs-matched}

@@ -13,12 +13,13 @@ use Rattle.grammar.specs.Lists.{concatMap}
 use Rattle.grammar.specs.Items.{bare}
 use Rattle.grammar.specs.ItemList.{item, among}
 use Rattle.grammar.specs.Plan.{PlanStep, planStep}
-use Rattle.grammar.specs.Pairs.{Pair, pair, pairsOf}
+use Rattle.grammar.specs.Pairs.{placeIn, Pair, pair, pairsOf}
 use Rattle.layout.specs.Card.{grammarOf}
 use Rattle.layout.specs.Records.{capacity}
 use Rattle.layout.specs.Steps.{planBytes, pairsBytes, planSteps, planRoom, stepsOf}
 use Rattle.layout.specs.Answers.{inputNumber, wordsIn, derivable, refusal, found, ReadAnswer, readAnswer, planPairs, PairsAnswer, pairsAnswer, checkNumber, PlanAfter}
-use Rattle.layout.proofs.Checking.{Derives, steps-bytes, check-complete, derives-length}
+use Rattle.layout.specs.Answers.{Derives}
+use Rattle.layout.proofs.Checking.{steps-bytes, check-complete, derives-length}
 use Rattle.layout.proofs.Packing.{read-fits, pairs-fit}
 use Rattle.check_pairs.specs.Paired.{Pairs}
 use Rattle.check_pairs.specs.declared.Paired.{Paired}
@@ -35,7 +36,7 @@ step-lines (planStep p i k j ∷ plan) = ap (λ (l : List ℕ). stepLine p i k j
 
 pair-lines : (pairs : List Pair) → pairLines (pairsBytes pairs) ≡ concatMap pairText pairs
 pair-lines [] = refl
-pair-lines (pair a b ∷ pairs) = ap (λ (l : List ℕ). pairLine a b ++ l) (pair-lines pairs)
+pair-lines (pair a b ∷ pairs) = ap (λ (l : List ℕ). pairLine (placeIn a) (placeIn b) ++ l) (pair-lines pairs)
 
 steps-length : (plan : List PlanStep) → length (planBytes plan) ≡ 4 * length plan
 steps-length [] = refl

@@ -7,12 +7,12 @@ use lib.Dec.{eqb}
 use lib.ListN.{length, take, drop}
 use Rattle.io.specs.Counts.{Counts}
 use Rattle.grammar.specs.Lists.{concatMap}
-use Rattle.grammar.specs.Input.{Holds}
-use Rattle.grammar.specs.Plan.{PlanStep, planStep, LeftmostDerivation}
-use Rattle.grammar.specs.Pairs.{Pair, pair, pairsOf}
+use Rattle.grammar.specs.Plan.{PlanStep, planStep}
+use Rattle.grammar.specs.Pairs.{placeIn, Pair, pair, pairsOf}
 use Rattle.layout.specs.Card.{grammarOf}
 use Rattle.layout.specs.Steps.{pairsBytes}
-use Rattle.layout.specs.Answers.{wordsIn, lineTest, ReadAnswer, readAnswer, pairsAnswer}
+use Rattle.layout.specs.Answers.{ReadAnswer, readAnswer, pairsAnswer}
+use Rattle.layout.specs.Answers.{Derives}
 use Rattle.lines_text.specs.Lines.{linesOf}
 use Rattle.lines_text.specs.Text.{readLine, refusedLine, stepLine, stepLines, pairLine, pairLines, Appends}
 use Rattle.lines.specs.declared.answer.Done.{Done}
@@ -26,12 +26,12 @@ abbrev pub stepText : PlanStep → List ℕ
 stepText (planStep p i k j) = stepLine p i k j
 
 abbrev pub pairText : Pair → List ℕ
-pairText (pair given taken) = pairLine given taken
+pairText (pair given taken) = pairLine (placeIn given) (placeIn taken)
 
 -- A line that is read: words and items, the steps of a leftmost derivation, its pairs. A refused line: the number.
 abbrev pub TextIf : Bool → List ℕ → List ℕ → List ℕ → Type 0
 TextIf true card line text =
-    (plan : List PlanStep) × LeftmostDerivation (grammarOf card) (Holds (lineTest card line)) (wordsIn line) plan
+    (plan : List PlanStep) × Derives card line plan
     × (text ≡ readLine (lineAnswer card line .words) (lineAnswer card line .items)
     ++ (concatMap stepText plan ++ concatMap pairText (pairsOf (grammarOf card) plan)))
 TextIf false card line text = text ≡ refusedLine (lineAnswer card line .number)

@@ -4,7 +4,7 @@ use mathlib.Core.Path.{_∙_, ap}
 use Prim.Native.Nat.{_-_}
 use native.Mathlib.Omega.{arith}
 use borrow.Author.Needs.{needs}
-use Rattle.grammar.proofs.PairsLaws.{oneGive}
+use Rattle.grammar.specs.Matching.{oneGive}
 use Rattle.card.specs.Productions.{ruleFrom}
 use Rattle.check_pairs.proofs.Passed.{Passed, passed}
 use Rattle.check_pairs.proofs.MatchLaws.{step-there, Counting, counting-start, counting-turn, counting-end}

@@ -42,14 +42,14 @@ production-in-requires c κs =
     let st = c .before .step-at in
     (l .inv .0 .accepted, step-there (a .card .now) (a .plan .now) (l .inv .0) (l .left - 1) (st .result) (omega (arith, l .inv .1 .inPlan)) (st .ensures))
 
-side-start-requires : tie.Need-side-start-requires Inv-loop μ-loop
-side-start-requires c κs = search needs
+side-of-requires : tie.Need-side-of-requires Inv-loop μ-loop
+side-of-requires c κs = search needs
 
 action-of-requires : tie.Need-action-of-requires Inv-loop μ-loop
 action-of-requires c κs = search needs
 
-settle-requires : tie.Need-settle-requires Inv-loop μ-loop
-settle-requires c κs =
+match-step-requires : tie.Need-match-step-requires Inv-loop μ-loop
+match-step-requires c κs =
     let s = c .before .before .before .before .before .before .before .before .before .before .before .before in
     let a = s .args in
     let l = c .before .before .before .before .before .before .before .before .loop in
@@ -69,8 +69,8 @@ loop-again c =
     let d = c .before .before .before .before .before .before .before .production-in in (
       l .inv .0,
       writing-turn (a .card .now) (a .plan .now) (l .inv .0) (a .room .now) (a .count) (l .takes) (l .room) (l .at) (l .left) (l .inv .1)
-          (st .result) (ruleFrom (d .result)) (c .before .before .before .before .before .before .before .before .before .before .loop-test .taken) (st .ensures) (d .ensures) _ _ (c .before .before .settle .result)
-          (c .before .before .before .before .before .action-of .ensures) (c .before .before .before .before .before .before .side-start .ensures) (c .before .before .settle .ensures),
+          (st .result) (ruleFrom (d .result)) (c .before .before .before .before .before .before .before .before .before .before .loop-test .taken) (st .ensures) (d .ensures) _ _ (c .before .before .match-step .result)
+          (c .before .before .before .before .before .action-of .ensures) (c .before .before .before .before .before .before .side-of .ensures) (c .before .before .match-step .ensures),
     )
 
 same-length : tie.Need-same-length Inv-loop μ-loop
@@ -98,9 +98,9 @@ write-pairs-spec =
     step-at-requires
     cast-production-in
     production-in-requires
-    side-start-requires
+    side-of-requires
     action-of-requires
-    settle-requires
+    match-step-requires
     loop-less
     loop-again
     same-length

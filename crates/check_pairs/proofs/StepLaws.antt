@@ -1,20 +1,20 @@
 -- One step back over a plan: a take's place goes on the waiting places, and a give's pair is written in front of those written before,
 -- by two stores at the seam of what is untouched and what is written.
-use Prim.Native.Nat.{ℕ, zero, suc, _+_, _-_, _*_, _≤_, _<_}
+use Prim.Native.Nat.{ℕ, suc, _+_, _-_, _*_, _≤_, _<_}
 use native.Mathlib.Numerals.{add-one}
 use native.Mathlib.Omega.{arith}
-use mathlib.Core.Path.{_≡_, refl, sym, _∙_, ap, subst}
-use mathlib.Core.List.{List, [], _∷_, _++_, append-assoc, tail}
-use lib.ListN.{length, take, drop, getD, set, length-set, length-take}
+use mathlib.Core.Path.{_≡_, refl, _∙_, ap, subst}
+use mathlib.Core.List.{List, [], _∷_, _++_, append-assoc, map, tail, head-eq-of-cons-eq, tail-eq-of-cons-eq}
+use lib.ListN.{length, take, drop, getD, set, length-set}
 use lib.Seq.{take-suc, length-take-le}
 use Rattle.grammar.specs.Rewriting.{Action, Take, Keep, Give}
-use Rattle.grammar.specs.Pairs.{Pair, pair}
-use Rattle.grammar.proofs.PairsLaws.{topOf, takesAction, matchedAction}
+use Rattle.grammar.specs.Pairs.{Stretch, placeIn, Pair, pair}
+use Rattle.grammar.specs.Matching.{topOf}
 use Rattle.layout.specs.Steps.{pairsBytes}
-use Rattle.goals.specs.Shown.{tops, entries}
-use Rattle.check_pairs.specs.Matching.{Matches, Settled}
+use Rattle.goals.specs.Shown.{tops}
+use Rattle.check_pairs.specs.Matching.{Held, held, Matches, Matched}
 use Rattle.check_pairs.specs.declared.matching.Matching.{Matching}
-use Rattle.goals.proofs.ShownLaws.{tops-put}
+use Rattle.goals.proofs.ShownLaws.{tops-length, tops-put}
 
 -- Two stores behind a front.
 set-pair : (front rest : List ℕ) (x y a b : ℕ) → set (set (front ++ (x ∷ y ∷ rest)) (length front) a) (suc (length front)) b ≡ front ++ (a ∷ b ∷ rest)
@@ -39,47 +39,52 @@ store-pair before rest room n a b h e =
     ap (λ (r : List ℕ). set (set r n a) (suc n) b) d
     ∙ subst (λ (m : ℕ). set (set (front ++ (x ∷ y ∷ rest)) m a) (suc m) b ≡ front ++ (a ∷ b ∷ rest)) l (set-pair front rest x y a b)
 
-module _ {a : Action} (place : ℕ) (takes room : List ℕ) (from : Matching) where
-  pub settled-take : {γ : ℕ} → a ≡ Take γ → from .waiting ≤ 24
-      → Settled a place takes room from (set takes (from .waiting) place) room
-      (record { waiting = from .waiting + 1; unwritten = from .unwritten })
-  settled-take e h = record {
+-- What a give leaves: its pair in front of those written before, and a place fewer that waits.
+abbrev given : ℕ → List ℕ → List ℕ → Matching → Held
+given place takes room from =
+    let n = 2 * (from .unwritten - 1) in
+    held takes (set (set room n place) (n + 1) (getD takes (from .waiting - 1) 0))
+    (record { waiting = from .waiting - 1; unwritten = from .unwritten - 1 })
+
+module _ {a : Action} (side : Stretch) {place : ℕ} (p : place ≡ placeIn side) (takes room : List ℕ) (from : Matching) where
+  pub matched-take : {γ : ℕ} → a ≡ Take γ → from .waiting ≤ 24
+      → Matched a side (held takes room from)
+      (held (set takes (from .waiting) place) room (record { waiting = from .waiting + 1; unwritten = from .unwritten }))
+  matched-take e h = record {
     matched = λ before count ts xs m. rw e (record {
       allTakes = length-set takes (from .waiting) place ∙ m .allTakes;
       shown = rw add-one
-          (tops-put takes (from .waiting) place (rw (m .allTakes) (omega arith)) ∙ ap (λ (l : List ℕ). place ∷ l) (m .shown));
+          (tops-put takes (from .waiting) place (rw (m .allTakes) (omega arith))
+          ∙ (ap (λ (l : List ℕ). place ∷ l) (m .shown) ∙ ap (λ (x : ℕ). x ∷ map placeIn ts) p));
       total = m .total;
       within = m .within;
       written = m .written;
     });
   }
 
-  pub settled-keep : a ≡ Keep → Settled a place takes room from takes room from
-  settled-keep e = record { matched = λ before count ts xs m. rw e m }
+  pub matched-keep : a ≡ Keep → Matched a side (held takes room from) (held takes room from)
+  matched-keep e = record { matched = λ before count ts xs m. rw e m }
 
-  pub settled-give : {γ : ℕ} → a ≡ Give γ → 0 < from .waiting → 0 < from .unwritten
-      → Settled a place takes room from takes
-      (set (set room (2 * (from .unwritten - 1)) place) (2 * (from .unwritten - 1) + 1) (getD takes (from .waiting - 1) 0))
-      (record { waiting = from .waiting - 1; unwritten = from .unwritten - 1 })
-  settled-give e h k = record { matched = λ before count ts xs m. rw e (go before count ts xs m) }
+  pub matched-give : {γ : ℕ} → a ≡ Give γ → 0 < from .waiting → 0 < from .unwritten → Matched a side (held takes room from) (given place takes room from)
+  matched-give e h k = record { matched = λ before count ts xs m. rw e (go before count ts xs m) }
     where
-      go : (before : List ℕ) (count : ℕ) (ts : List ℕ) (xs : List Pair) → Matches takes room before count from ts xs
-          → Matches takes (set (set room (2 * (from .unwritten - 1)) place) (2 * (from .unwritten - 1) + 1) (getD takes (from .waiting - 1) 0))
-          before count (record { waiting = from .waiting - 1; unwritten = from .unwritten - 1 }) (tail ts) (pair place (topOf ts) ∷ xs)
-      go before count ts xs m =
+      go : (before : List ℕ) (count : ℕ) (ts : List Stretch) (xs : List Pair) → Matches before count ts xs (held takes room from)
+          → Matches before count (tail ts) (pair side (topOf ts) ∷ xs) (given place takes room from)
+      go before count [] xs m = absurd (omega (arith, tops-length takes (from .waiting), ap length (m .shown)))
+      go before count (t ∷ ts) xs m =
           let n = 2 * (from .unwritten - 1) in
           let w : from .waiting ≡ suc (from .waiting - 1) = omega arith in
-          let s : getD takes (from .waiting - 1) 0 ∷ tops takes (from .waiting - 1) ≡ ts =
-          subst (λ (q : ℕ). tops takes q ≡ ts) w (m .shown) in
+          let s : getD takes (from .waiting - 1) 0 ∷ tops takes (from .waiting - 1) ≡ placeIn t ∷ map placeIn ts =
+          subst (λ (q : ℕ). tops takes q ≡ placeIn t ∷ map placeIn ts) w (m .shown) in
           let u : 2 * from .unwritten ≡ suc (suc n) = omega arith in
           let r : room ≡ take (suc (suc n)) before ++ (pairsBytes xs ++ drop (2 * count) before) =
           subst (λ (q : ℕ). room ≡ take q before ++ (pairsBytes xs ++ drop (2 * count) before)) u (m .written) in
           record {
             allTakes = m .allTakes;
-            shown = ap tail s;
+            shown = tail-eq-of-cons-eq s;
             total = omega (arith, m .total);
             within = m .within;
-            written = rw (add-one, ← ap topOf s)
+            written = rw (add-one, ← p, ← head-eq-of-cons-eq s)
                 (store-pair before (pairsBytes xs ++ drop (2 * count) before) room n place (getD takes (from .waiting - 1) 0)
                 (omega (arith, m .total, m .within)) r);
           }
