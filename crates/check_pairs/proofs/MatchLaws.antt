@@ -20,7 +20,7 @@ use Rattle.layout.specs.Answers.{planPairs, pairsAfter}
 use Rattle.goals.specs.Shown.{actionOf, stepFrom, StepAt}
 use Rattle.check_pairs.specs.Matching.{CanGive, RoomToMatch, held, Matches, Matched}
 use Rattle.check_pairs.specs.declared.matching.Matching.{Matching}
-use Rattle.goals.specs.declared.replay.Step.{Step}
+use Rattle.goals.specs.declared.replay.StepBytes.{StepBytes}
 use Rattle.goals.proofs.ShownLaws.{tops-length}
 use Rattle.goals.proofs.AdvanceLaws.{rule-there, rule-missing}
 use Rattle.check_pairs.proofs.Paced.{Paced, pacedNone, paced, Waits, takes-rule, matched-rule}
@@ -72,7 +72,7 @@ finish room before u count xs P e t c w = let z : 2 * u ≡ 0 = omega (arith, ap
 
 module _ (card plan : List ℕ) (x : Passed card plan) where
   -- A step in its place: the rest of the plan is paced, and the step's production is one of the card's.
-  module _ (s : ℕ) (st : Step) (h : 4 * s + 4 ≤ length plan) (a : StepAt plan (4 * s) st) where
+  module _ (s : ℕ) (st : StepBytes) (h : 4 * s + 4 ≤ length plan) (a : StepAt plan (4 * s) st) where
     here : drop s (planOf plan) ≡ stepFrom st ∷ drop (suc s) (planOf plan)
     here = suffix-step plan (planOf plan) s st (x .bytes) h a
 
@@ -107,7 +107,7 @@ module _ (card plan : List ℕ) (x : Passed card plan) where
     counted = ap (λ (l : List PlanStep). length (matched (grammarOf card) l)) (sym nothing-left);
   }
 
-  pub counting-turn : (count left : ℕ) → Counting count left → 0 < left → (st : Step) (R : Rule) → StepAt plan (4 * (left - 1)) st
+  pub counting-turn : (count left : ℕ) → Counting count left → 0 < left → (st : StepBytes) (R : Rule) → StepAt plan (4 * (left - 1)) st
       → R ≡ production card (st .number) → (more : ℕ) → more ≡ oneGive (actionOf R) → more ≤ 1 → Counting (count + more) (left - 1)
   counting-turn count left c h st R a r more m l =
       let f = step-back (left - 1) st (omega (arith, c .inPlan)) a R r in
@@ -164,7 +164,7 @@ module _ (card plan : List ℕ) (x : Passed card plan) where
         ap (λ (s : ℕ). matched (grammarOf card) (drop s (planOf plan))) z ∙ sym (x .pairs) in
         finish room before (at .unwritten) count xs (planPairs card (stepsOf plan)) d (w .matches .total) e (w .matches .written)
 
-    module _ (st : Step) (R : Rule) (h : 0 < left) (a : StepAt plan (4 * (left - 1)) st) (r : R ≡ production card (st .number)) where
+    module _ (st : StepBytes) (R : Rule) (h : 0 < left) (a : StepAt plan (4 * (left - 1)) st) (r : R ≡ production card (st .number)) where
       this : Front (grammarOf card) (stepFrom st) (drop (left - 1) (planOf plan)) (drop left (planOf plan)) R
       this =
           let e : suc (left - 1) ≡ left = omega arith in

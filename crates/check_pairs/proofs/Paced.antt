@@ -16,7 +16,8 @@ use Rattle.grammar.specs.Matching.{takesAction, takesRule, takesOf, matchedActi
 use Rattle.grammar.proofs.StandsLaws.{getElem-stands}
 use Rattle.goals.specs.Goals.{Goal, goal, Standing, stuck, standing, topIndex, actionFits, stackAfter, fits, replaced, turnTo, turn, goalsRun, Tiled}
 use Rattle.goals.specs.Shown.{indicesOf, actionOf}
-use Rattle.goals.proofs.GoalsTest.{both, no-depth, word-fits, pair-fits}
+use Rattle.layout.proofs.TestLaws.{both}
+use Rattle.goals.proofs.GoalsTest.{no-depth, word-fits, pair-fits}
 use Rattle.goals.proofs.GoalsTiled.{TiledAt, tiled-few, next-tiled}
 
 -- A take waits where the action gives.

@@ -14,14 +14,12 @@ use Rattle.grammar.specs.Matching.{matched}
 use Rattle.grammar.proofs.PairsLaws.{matched-length, pairs-matched}
 use Rattle.layout.specs.Card.{cardNumber, grammarOf}
 use Rattle.layout.specs.Steps.{planBytes, stepsOf, andStep}
-use Rattle.layout.specs.Answers.{inputNumber, wordsIn, lineTest, checkNumber, planPairs}
+use Rattle.layout.specs.Answers.{inputNumber, wordsIn, lineTest, Derives, checkNumber, planPairs}
 use Rattle.layout.proofs.CardLaws.{card-one-sided}
-use Rattle.layout.specs.Answers.{Derives}
 use Rattle.layout.proofs.Checking.{check-sound, steps-bytes}
-use Rattle.layout.proofs.Packing.{input-words}
-use Rattle.line.proofs.AcceptedLaws.{accepted-line}
+use Rattle.layout.proofs.Accepting.{AcceptedLine, accepted-line}
 use Rattle.goals.specs.Shown.{stepFrom, StepAt}
-use Rattle.goals.specs.declared.replay.Step.{Step}
+use Rattle.goals.specs.declared.replay.StepBytes.{StepBytes}
 use Rattle.goals.proofs.GoalsTest.{goals-complete}
 use Rattle.goals.proofs.GoalsTiled.{tiled-start}
 use Rattle.goals.proofs.ReplayLaws.{steps-from}
@@ -49,14 +47,14 @@ passed card line plan e =
     go : (steps : List PlanStep) → inputNumber card line ≡ 0 → plan ≡ planBytes steps → Derives card line steps → stepsOf plan ≡ some steps
         → Passed card plan
     go steps e₁ e₂ d s =
-        let (h₁, h₂) = input-words card line e₁ in
+        let a : AcceptedLine card line = accepted-line card line e₁ in
         let z : planOf plan ≡ steps = ap stepsElse s in
         let g = grammarOf card in
         let one = card-one-sided card in
         let n = wordsIn line in
-        let p = run-paced g (lineTest card line) one n h₂ steps 0 _ (tiled-start n h₁) (goals-complete g (lineTest card line) one n d) in
+        let p = run-paced g (lineTest card line) one n (a .most-words) steps 0 _ (tiled-start n (a .some-words)) (goals-complete g (lineTest card line) one n d) in
         record {
-          accepted = accepted-line card line e₁ .card-accepted;
+          accepted = a .card-accepted;
           bytes = e₂ ∙ ap planBytes (sym z);
           pairs = ap (planPairs card) s ∙ (pairs-matched d ∙ ap (matched g) (sym z));
           pace = subst (Paced g) (sym z) p;
@@ -73,7 +71,7 @@ pub bytes-length : (steps : List PlanStep) → length (planBytes steps) ≡ 4 * 
 bytes-length [] = refl
 bytes-length (planStep p i k j ∷ steps) = omega (arith, bytes-length steps)
 
-pub suffix-step : (plan : List ℕ) (steps : List PlanStep) (s : ℕ) (st : Step) → plan ≡ planBytes steps → 4 * s + 4 ≤ length plan
+pub suffix-step : (plan : List ℕ) (steps : List PlanStep) (s : ℕ) (st : StepBytes) → plan ≡ planBytes steps → 4 * s + 4 ≤ length plan
     → StepAt plan (4 * s) st → drop s steps ≡ stepFrom st ∷ drop (suc s) steps
 suffix-step plan steps s st e h x =
     let here : stepsOf (drop (4 * s) plan) ≡ some (drop s steps) =

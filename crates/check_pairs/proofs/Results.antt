@@ -13,8 +13,7 @@ use Rattle.grammar.specs.Matching.{giveSteps, takeSteps}
 use Rattle.grammar.proofs.PairsLaws.{gives-count, takes-gives}
 use Rattle.layout.specs.Card.{grammarOf}
 use Rattle.layout.specs.Steps.{planBytes, stepsOf, planSteps, planRoom}
-use Rattle.layout.specs.Answers.{wordsIn, checkNumber, planPairs, HasDerivation}
-use Rattle.layout.specs.Answers.{Derives}
+use Rattle.layout.specs.Answers.{wordsIn, Derives, checkNumber, planPairs, HasDerivation}
 use Rattle.layout.proofs.Checking.{check-sound, steps-bytes, derives-length, derives-derivation}
 use Rattle.goals.specs.Goals.{Goal, Standing, next, goalsStart, Tiled}
 use Rattle.goals.specs.Shown.{indicesOf}

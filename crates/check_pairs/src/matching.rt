@@ -1,13 +1,17 @@
 // The pairs of a plan that passes: each give with the take that removes its index (document 01, "Check, pairs, name").
 use card::Action;
+use card::Card;
 use card::Production;
-use goals::replay::Step;
+use goals::replay::ENTRIES;
+use goals::replay::StepBytes;
 use goals::replay::step_at;
+use octets::wide;
 ghost use mathlib.Core.Path.{_≡_};
 ghost use Prim.Native.Nat.{_+_, _*_, _≤_};
 ghost use lib.ListN.{length};
 ghost use Rattle.grammar.specs.Pairs.{stretch, sideOf, placeIn};
 ghost use Rattle.grammar.specs.Matching.{oneGive};
+ghost use Rattle.layout.specs.Card.{productionTable};
 ghost use Rattle.layout.specs.Steps.{stepsOf};
 ghost use Rattle.layout.specs.Answers.{planPairs, pairsAfter};
 ghost use Rattle.card.specs.Productions.{actionFrom, ruleFrom};
@@ -55,7 +59,7 @@ fn between(from: u8, to: u8) -> Stretch
 }
 
 // The side of a step: what lies before the split where the side stands first, and after it where it stands last.
-fn side_of(production: Production, step: Step) -> Stretch
+fn side_of(production: Production, step: StepBytes) -> Stretch
     ensures { λ r. ⌜ stretchFrom r ≡ sideOf (ruleFrom production) (stepFrom step) ⌝ }
 {
     match production {
@@ -96,7 +100,7 @@ fn one_give(action: Action) -> usize
 fn match_step(
     action: Action,
     side: Stretch,
-    takes: &mut [u8; 25],
+    takes: &mut [u8; ENTRIES],
     room: &mut [u8],
     at: Matching,
 ) -> Matching
@@ -131,8 +135,8 @@ fn match_step(
 }
 
 // How many pairs the plan has: its give steps, counted from the last.
-pub fn gives(card: &[u8], plan: &[u8]) -> usize
-    requires { ⌜ Checked (now card) (now plan) ⌝ }
+pub fn gives(card: &[u8], table: usize, plan: &[u8]) -> usize
+    requires { ⌜ Checked (now card) (now plan) × (table ≡ productionTable (now card)) ⌝ }
     ensures { λ r. ⌜ (r ≡ length (planPairs (now (card .entry)) (stepsOf (now (plan .entry))))) × (r ≤ length (now (plan .entry))) ⌝ }
 {
     let mut count = 0;
@@ -140,19 +144,19 @@ pub fn gives(card: &[u8], plan: &[u8]) -> usize
     while 0 < left {
         left -= 1;
         let step = step_at(plan, 4 * left);
-        let production = card::production_in(card, step.number as usize);
+        let production = Card::production(card, table, wide(step.number));
         count += one_give(action_of(production));
     }
     count
 }
 
 // Writes the pairs, from the last to the first, in one pass back over the plan.
-pub fn write_pairs(card: &[u8], plan: &[u8], count: usize, room: &mut [u8])
-    requires { ⌜ Checked (now card) (now plan) ⌝ }
+pub fn write_pairs(card: &[u8], table: usize, plan: &[u8], count: usize, room: &mut [u8])
+    requires { ⌜ Checked (now card) (now plan) × (table ≡ productionTable (now card)) ⌝ }
     requires { ⌜ (count ≡ length (planPairs (now card) (stepsOf (now plan)))) × (2 * count ≤ length (now room)) ⌝ }
     ensures { λ r. ⌜ now (room .exit) ≡ pairsAfter (planPairs (now (card .entry)) (stepsOf (now (plan .entry)))) (now (room .entry)) ⌝ }
 {
-    let mut takes = [0u8; 25];
+    let mut takes = [0u8; ENTRIES];
     let mut at = Matching {
         waiting: 0,
         unwritten: count,
@@ -161,7 +165,7 @@ pub fn write_pairs(card: &[u8], plan: &[u8], count: usize, room: &mut [u8])
     while 0 < left {
         left -= 1;
         let step = step_at(plan, 4 * left);
-        let production = card::production_in(card, step.number as usize);
+        let production = Card::production(card, table, wide(step.number));
         let side = side_of(production, step);
         at = match_step(action_of(production), side, &mut takes, room, at);
     }

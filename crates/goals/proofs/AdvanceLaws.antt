@@ -18,7 +18,7 @@ use Rattle.layout.specs.Card.{production, productionCount, grammarOf}
 use Rattle.goals.specs.Goals.{Goal, goal, Standing, stuck, standing, topIndex, actionFits, fits, replaced, turnTo, turn, next}
 use Rattle.goals.specs.Shown.{tops, namesOf, indicesOf, arrays, Shows, actionOf, CanTake, ShowsAt, Replaced, FirstGoal, inSet, fitsTop, stepFrom, Advanced}
 use Rattle.goals.specs.declared.replay.Stand.{Stand}
-use Rattle.goals.specs.declared.replay.Step.{Step}
+use Rattle.goals.specs.declared.replay.StepBytes.{StepBytes}
 use Rattle.goals.specs.declared.replay.Top.{Top}
 use Rattle.goals.specs.declared.replay.Turn.{Turn}
 use Rattle.goals.specs.declared.replay.Turn.the-variants.{Stuck, To}
@@ -92,7 +92,7 @@ no-count names count [] e h = refl
 no-count names count (goal A s j ∷ rest) e h =
     let d : count ≡ suc (length (namesOf rest)) = sym (tops-length names count) ∙ ap length e in absurd (omega arith)
 
-module _ (card places : List ℕ) (st : Step) (names ends bases stack : List ℕ) (from : Stand) where
+module _ (card places : List ℕ) (st : StepBytes) (names ends bases stack : List ℕ) (from : Stand) where
   abbrev Refused : Type 0
   Refused = Advanced card places st (arrays names ends bases stack) from (arrays names ends bases stack) Stuck
 

@@ -20,7 +20,7 @@ use Rattle.layout.specs.Steps.{andStep, stepsOf}
 use Rattle.goals.specs.Goals.{Goal, goal, Standing, stuck, standing, allReached, next, goalsRun, goalsStart, replayFrom, Tiled, reached, tiled}
 use Rattle.goals.specs.Shown.{tops, namesOf, indicesOf, arrays, Shows, ShowsAt, Within, stepFrom, StepAt, Tells, Advanced}
 use Rattle.goals.specs.declared.replay.Stand.{Stand}
-use Rattle.goals.specs.declared.replay.Step.{Step}
+use Rattle.goals.specs.declared.replay.StepBytes.{StepBytes}
 use Rattle.goals.specs.declared.replay.Turn.{Turn}
 use Rattle.goals.specs.declared.replay.Turn.the-variants.{Stuck, To}
 use Rattle.goals.proofs.GoalsTiled.{TiledAt, tiled-start, tiled-few, next-tiled}
@@ -38,7 +38,7 @@ drop-four l at h =
     (drop-cons l (suc (suc at)) 0 (omega arith)
     ∙ ap (λ (t : List ℕ). getD l (suc (suc at)) 0 ∷ t) (drop-cons l (suc (suc (suc at))) 0 (omega arith)))))
 
-pub steps-from : (plan : List ℕ) (at : ℕ) (st : Step) → at + 4 ≤ length plan → StepAt plan at st
+pub steps-from : (plan : List ℕ) (at : ℕ) (st : StepBytes) → at + 4 ≤ length plan → StepAt plan at st
     → stepsOf (drop at plan) ≡ andStep (stepFrom st) (stepsOf (drop (at + 4) plan))
 steps-from plan at st h s =
     ap stepsOf (drop-four plan at h) ∙ rw (← s .number, ← s .start, ← s .split, ← s .end)
@@ -149,7 +149,7 @@ module _ (card places : List ℕ) (n : ℕ) (plan : List ℕ) where
         (sym (drop-of-length-le plan h))
         ∙ x .same)
 
-    module _ (st : Step) (here : at + 4 ≤ length plan) (s : StepAt plan at st)
+    module _ (st : StepBytes) (here : at + 4 ≤ length plan) (s : StepAt plan at st)
         (names′ ends′ bases′ stack′ : List ℕ) (r : Turn)
         (y : Advanced card places st (arrays names ends bases stack) stand (arrays names′ ends′ bases′ stack′) r) where
       rest-same : replayFrom (grammarOf card) (wordTest places)

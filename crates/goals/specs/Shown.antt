@@ -14,7 +14,7 @@ use Rattle.layout.specs.Bytes.{byteAt}
 use Rattle.layout.specs.Card.{grammarOf, cardNumber, productionTable, productionCount}
 use Rattle.goals.specs.declared.replay.Rules.{Rules}
 use Rattle.goals.specs.declared.replay.Stand.{Stand}
-use Rattle.goals.specs.declared.replay.Step.{Step}
+use Rattle.goals.specs.declared.replay.StepBytes.{StepBytes}
 use Rattle.goals.specs.declared.replay.Top.{Top}
 use Rattle.goals.specs.declared.replay.Turn.{Turn}
 use Rattle.goals.specs.declared.replay.Turn.the-variants.{Stuck, To}
@@ -134,11 +134,11 @@ splitFitsTop A top k = splitFits A (top .name) (top .start) k (top .end)
 abbrev pub fitsTop : Rule → ℕ → Top → ℕ → Bool
 fitsTop R here top k = fits R (inSet here) (top .name) (top .depth) (top .index) (top .start) k (top .end)
 
-abbrev pub stepFrom : Step → PlanStep
+abbrev pub stepFrom : StepBytes → PlanStep
 stepFrom st = planStep (st .number) (st .start) (st .split) (st .end)
 
 -- The step that stands at a place of a plan's bytes.
-pub record StepAt (plan : List ℕ) (at : ℕ) (st : Step) : Type 0 where
+pub record StepAt (plan : List ℕ) (at : ℕ) (st : StepBytes) : Type 0 where
   pub number : st .number ≡ byteAt plan at
   pub start : st .start ≡ byteAt plan (at + 1)
   pub split : st .split ≡ byteAt plan (at + 2)
@@ -149,7 +149,7 @@ abbrev pub Tells : Arrays → Turn → Standing → Type 0
 Tells a Stuck S = S ≡ stuck
 Tells a (To at) S = ShowsAt (a .names) (a .ends) (a .bases) (a .stack) at S
 
-pub record Advanced (card places : List ℕ) (st : Step) (old : Arrays) (from : Stand) (new : Arrays) (r : Turn) : Type 0 where
+pub record Advanced (card places : List ℕ) (st : StepBytes) (old : Arrays) (from : Stand) (new : Arrays) (r : Turn) : Type 0 where
   pub told : (goals : List Goal) → Shows (old .names) (old .ends) (old .bases) (old .stack) (from .count) (from .top) goals
       → Tells new r (next (grammarOf card) (wordTest places) (stepFrom st) (standing (from .place) goals))
 

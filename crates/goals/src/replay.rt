@@ -18,8 +18,8 @@ ghost use Rattle.goals.specs.Goals as model;
 ghost use Rattle.goals.specs.Shown.{tops, arrays, standOf, actionOf, CanTake, Acted, Opened, Room, Replaced};
 ghost use Rattle.goals.specs.Shown.{Within, FirstGoal, splitFitsTop, fitsTop, StepAt, RulesOf, Advanced};
 
-// A step of a plan: the production's number, and its stretch with the split.
-pub struct Step {
+// A step of a plan as its four bytes: the production's number, and its stretch with the split.
+pub struct StepBytes {
     pub number: u8,
     pub start: u8,
     pub split: u8,
@@ -49,7 +49,7 @@ pub struct Rules {
 }
 
 // One entry more than a line has words, so that the next one's place is always there.
-const ENTRIES: usize = MOST_WORDS + 1;
+pub const ENTRIES: usize = MOST_WORDS + 1;
 
 pub enum Turn {
     Stuck,
@@ -263,7 +263,7 @@ fn advance(
     card: &[u8],
     rules: Rules,
     places: &[u32; MOST_WORDS],
-    step: Step,
+    step: StepBytes,
     stand: Stand,
     names: &mut [u8; ENTRIES],
     ends: &mut [usize; ENTRIES],
@@ -298,11 +298,11 @@ fn advance(
     Turn::To(replace(production, split, stand, names, ends, bases, stack))
 }
 
-pub fn step_at(plan: &[u8], at: usize) -> Step
+pub fn step_at(plan: &[u8], at: usize) -> StepBytes
     requires { ⌜ at + 4 ≤ length (now plan) ⌝ }
     ensures { λ r. ⌜ StepAt (now (plan .entry)) at r ⌝ }
 {
-    Step {
+    StepBytes {
         number: plan[at],
         start: plan[at + 1],
         split: plan[at + 2],

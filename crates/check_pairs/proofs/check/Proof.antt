@@ -1,33 +1,22 @@
--- Each way out is a law of Check's number: the refusal of card or line, 34 where the replay says no, and 0 where it says yes.
--- An accepted line has an accepted card and 1 to 24 words, which the replay asks.
-use borrow.Author.Needs.{needs}
-use borrow.Author.Tests.{not-true, not-false}
-use Rattle.check_pairs.proofs.CheckLaws.{check-refused, accepted-fits, check-fails, check-passes}
+-- A card's refusal comes first; an accepted card leaves it to the line and the plan.
+use mathlib.Core.Path.{sym, _∙_}
+use Rattle.check_pairs.proofs.CheckLaws.{check-card}
 use Rattle.check_pairs.proofs.check.Statement.{statement}
 use Rattle.check_pairs.proofs.check.Tie as tie
 
-accept-requires : tie.Need-accept-requires
-accept-requires c κs = search needs
+card-number-requires : tie.Need-card-number-requires
+card-number-requires c κs = tt
 
 returns : tie.Need-returns
 returns c =
-    let a = c .before .before .before .before .before .args in check-refused (a .card .now) (a .line .now) (c .before .accept .result) (c .before .accept .ensures) (a .plan .now) (c .if1 .taken)
+    let a = c .before .before .before .before .before .args in
+    check-card (a .card .now) (a .line .now) (a .plan .now) (c .before .card-number .ensures) (c .if1 .taken)
 
-replay-requires : tie.Need-replay-requires
-replay-requires c κs =
-    let a = c .before .before .before .before .before .before .before .args in accepted-fits (a .card .now) (a .line .now) (c .before .before .before .accept .result) (c .before .before .before .accept .ensures) (c .before .before .if1 .left)
+check-line-requires : tie.Need-check-line-requires
+check-line-requires c κs = sym (c .before .card-number .ensures) ∙ c .if1 .left
 
 returns-2 : tie.Need-returns-2
-returns-2 c =
-    let a = c .before .before .before .before .before .before .before .before .before .args in
-    check-fails (a .card .now) (a .line .now) (c .before .before .before .before .before .accept .result) (c .before .before .before .before .before .accept .ensures) (c .before .before .before .before .if1 .left) (a .plan .now) (c .before .replay .ensures)
-    (not-true _ (c .if2 .taken))
-
-returns-3 : tie.Need-returns-3
-returns-3 c =
-    let a = c .before .before .before .before .before .before .before .before .before .args in
-    check-passes (a .card .now) (a .line .now) (c .before .before .before .before .before .accept .result) (c .before .before .before .before .before .accept .ensures) (c .before .before .before .before .if1 .left) (a .plan .now) (c .before .replay .ensures)
-    (not-false _ (c .if2 .left))
+returns-2 c = c .check-line .ensures
 
 pub check-spec : {M : Type 1} → statement M
-check-spec = tie.close (tie.spec accept-requires returns replay-requires returns-2 returns-3)
+check-spec = tie.close (tie.spec card-number-requires returns check-line-requires returns-2)

@@ -1,8 +1,10 @@
 -- The invariant: the takes that wait and the pairs that are written are those of the rest of the plan, from the step that the loop met last.
 -- The measure is the number of steps left. Each need is a law of that invariant.
+use mathlib.Core.Path.{_≡_, _∙_, ap}
 use Prim.Native.Nat.{_-_}
 use native.Mathlib.Omega.{arith}
 use borrow.Author.Needs.{needs}
+use Rattle.layout.specs.Card.{production}
 use Rattle.card.specs.Productions.{ruleFrom}
 use Rattle.check_pairs.proofs.Passed.{Passed, passed}
 use Rattle.check_pairs.proofs.MatchLaws.{step-there, Writing, writing-start, writing-length, writing-end, writing-room, writing-turn}
@@ -10,17 +12,17 @@ use Rattle.check_pairs.proofs.matching.write_pairs.Statement.{statement
 use Rattle.check_pairs.proofs.matching.write_pairs.Tie as tie
 
 abbrev Inv-loop : tie.InvT-loop
-Inv-loop card plan count room₀ takes₀ at₀ left₀ room takes at left =
+Inv-loop card table plan count room₀ takes₀ at₀ left₀ room takes at left =
     (x : Passed card plan) × Writing card plan x room₀ count takes room at left
 
 abbrev μ-loop : tie.MeasureT-loop
-μ-loop card plan count room₀ takes₀ at₀ left₀ room takes at left = left
+μ-loop card table plan count room₀ takes₀ at₀ left₀ room takes at left = left
 
 loop-holds : tie.Need-loop-holds Inv-loop μ-loop
 loop-holds c =
     let s = c .before .before .before in
     let a = s .args in
-    let x = passed (a .card .now) (s .pre .0 .0) (a .plan .now) (s .pre .0 .1) in
+    let x = passed (a .card .now) (s .pre .0 .0 .0) (a .plan .now) (s .pre .0 .0 .1) in
     (x, writing-start (a .card .now) (a .plan .now) x (a .room .now) (a .count) (s .pre .1 .1))
 
 sub-left : tie.Need-sub-left Inv-loop μ-loop
@@ -32,15 +34,24 @@ mul-step-at c = omega (arith, c .before .loop .inv .1 .inPlan)
 step-at-requires : tie.Need-step-at-requires Inv-loop μ-loop
 step-at-requires c κs = omega (arith, c .before .loop .inv .1 .inPlan)
 
-cast-production-in : tie.Need-cast-production-in Inv-loop μ-loop
-cast-production-in c = search needs
+wide-requires : tie.Need-wide-requires Inv-loop μ-loop
+wide-requires c κs = tt
 
-production-in-requires : tie.Need-production-in-requires Inv-loop μ-loop
-production-in-requires c κs =
-    let a = c .before .before .before .before .before .before .before .args in
+production-requires : tie.Need-production-requires Inv-loop μ-loop
+production-requires c κs =
+    let s = c .before .before .before .before .before .before .before in
+    let a = s .args in
     let l = c .before .before .before .loop in
     let st = c .before .step-at in
-    (l .inv .0 .accepted, step-there (a .card .now) (a .plan .now) (l .inv .0) (l .left - 1) (st .result) (omega (arith, l .inv .1 .inPlan)) (st .ensures))
+    let there =
+    step-there (a .card .now) (a .plan .now) (l .inv .0) (l .left - 1) (st .result) (omega (arith, l .inv .1 .inPlan)) (st .ensures) in
+    record { accepted = l .inv .0 .accepted; starts = s .pre .0 .1; counted = omega (arith, c .wide .ensures .0, there) }
+
+-- The production that was read is the step's.
+meant : (c : tie.After-production Inv-loop μ-loop) → let a = c .before .before .before .before .before .before .before .before .args in
+    ruleFrom (c .production .result) ≡ production (a .card .now) (c .before .before .step-at .result .number)
+meant c = let a = c .before .before .before .before .before .before .before .before .args in
+    c .production .ensures ∙ ap (production (a .card .now)) (c .before .wide .ensures .0)
 
 side-of-requires : tie.Need-side-of-requires Inv-loop μ-loop
 side-of-requires c κs = search needs
@@ -54,9 +65,9 @@ match-step-requires c κs =
     let a = s .args in
     let l = c .before .before .before .before .before .before .before .before .loop in
     let st = c .before .before .before .before .before .before .step-at in
-    let d = c .before .before .before .before .production-in in
+    let d = c .before .before .before .before .production in
     writing-room (a .card .now) (a .plan .now) (l .inv .0) (a .room .now) (a .count) (l .takes) (l .room) (l .at) (l .left) (l .inv .1)
-    (st .result) (ruleFrom (d .result)) (c .before .before .before .before .before .before .before .loop-test .taken) (st .ensures) (d .ensures) (s .pre .1 .0) (c .before .before .action-of .ensures)
+    (st .result) (ruleFrom (d .result)) (c .before .before .before .before .before .before .before .loop-test .taken) (st .ensures) (meant (c .before .before .before .before)) (s .pre .1 .0) (c .before .before .action-of .ensures)
 
 loop-less : tie.Need-loop-less Inv-loop μ-loop
 loop-less c = search needs
@@ -66,10 +77,10 @@ loop-again c =
     let a = c .before .before .before .before .before .before .before .before .before .before .before .before .before .before .before .args in
     let l = c .before .before .before .before .before .before .before .before .before .before .before .loop in
     let st = c .before .before .before .before .before .before .before .before .before .step-at in
-    let d = c .before .before .before .before .before .before .before .production-in in (
+    let d = c .before .before .before .before .before .before .before .production in (
       l .inv .0,
       writing-turn (a .card .now) (a .plan .now) (l .inv .0) (a .room .now) (a .count) (l .takes) (l .room) (l .at) (l .left) (l .inv .1)
-          (st .result) (ruleFrom (d .result)) (c .before .before .before .before .before .before .before .before .before .before .loop-test .taken) (st .ensures) (d .ensures) _ _ (c .before .before .match-step .result)
+          (st .result) (ruleFrom (d .result)) (c .before .before .before .before .before .before .before .before .before .before .loop-test .taken) (st .ensures) (meant (c .before .before .before .before .before .before .before)) _ _ (c .before .before .match-step .result)
           (c .before .before .before .before .before .action-of .ensures) (c .before .before .before .before .before .before .side-of .ensures) (c .before .before .match-step .ensures),
     )
 
@@ -96,8 +107,8 @@ write-pairs-spec =
     sub-left
     mul-step-at
     step-at-requires
-    cast-production-in
-    production-in-requires
+    wide-requires
+    production-requires
     side-of-requires
     action-of-requires
     match-step-requires
