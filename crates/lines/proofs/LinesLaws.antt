@@ -7,7 +7,7 @@ use mathlib.Core.Path.{_≡_, refl, sym, _∙_, ap, subst}
 use mathlib.Core.List.{List, [], _∷_, _++_, append-assoc, append-nil}
 use lib.ListN.{length, take, drop}
 use lib.Seq.{length-take-le}
-use Rattle.lines_text.specs.Lines.{linesOf, LineEnds}
+use Rattle.split.specs.Lines.{linesOf, LineEnds}
 use Rattle.lines_text.proofs.Appending.{appends-within}
 use Rattle.lines.specs.Answer.{LineText, Texts, none, more, Answers, AnswersAll}
 use Rattle.lines.specs.declared.answer.Done.{Done}

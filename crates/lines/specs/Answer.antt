@@ -13,7 +13,7 @@ use Rattle.layout.specs.Card.{grammarOf}
 use Rattle.layout.specs.Steps.{pairsBytes}
 use Rattle.layout.specs.Answers.{ReadAnswer, readAnswer, pairsAnswer}
 use Rattle.layout.specs.Answers.{Derives}
-use Rattle.lines_text.specs.Lines.{linesOf}
+use Rattle.split.specs.Lines.{linesOf}
 use Rattle.lines_text.specs.Text.{readLine, refusedLine, stepLine, stepLines, pairLine, pairLines, Appends}
 use Rattle.lines.specs.declared.answer.Done.{Done}
 

@@ -1,6 +1,6 @@
 // The answers for lines: what Read and Pairs answer, as text in a buffer.
-use lines_text::split::line_end;
 use lines_text::text;
+use split::line_end;
 ghost use Prim.Native.Nat.{_+_, _≤_};
 ghost use lib.ListN.{length};
 ghost use Rattle.lines_text.specs.Text.{Appends};

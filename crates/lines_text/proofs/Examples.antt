@@ -1,8 +1,7 @@
--- Worked examples of the definitions, computed: lines of document 01's printed example, digits, and inputs taken apart into lines.
+-- Worked examples of the definitions, computed: lines of document 01's printed example, and digits.
 use Prim.Native.Nat.{ℕ}
 use mathlib.Core.Path.{_≡_, refl}
 use mathlib.Core.List.{List, [], _∷_, _++_}
-use Rattle.lines_text.specs.Lines.{linesOf}
 use Rattle.lines_text.specs.Text.{decimal, readLine, refusedLine, stepLine, pairLine}
 
 -- "read 3 5", "7 0 1 3", "pair 0 2" and "refused 25".
@@ -31,19 +30,3 @@ example-largest : decimal 18446744073709551615
     ≡ 49 ∷ 56 ∷ 52 ∷ 52 ∷ 54 ∷ 55 ∷ 52 ∷ 52 ∷ 48 ∷ 55 ∷ 51 ∷ 55 ∷ 48 ∷ 57 ∷ 53 ∷ 53 ∷ 49 ∷ 54 ∷ 49 ∷ 53 ∷ []
 unfolding decimal
 example-largest = refl
-
--- No bytes; a line end alone; two lines, with and without the last line end; an empty line between two others.
-no-lines : linesOf [] ≡ []
-no-lines = refl
-
-one-empty : linesOf (10 ∷ []) ≡ [] ∷ []
-one-empty = refl
-
-two-ended : linesOf (97 ∷ 98 ∷ 10 ∷ 99 ∷ 10 ∷ []) ≡ (97 ∷ 98 ∷ []) ∷ (99 ∷ []) ∷ []
-two-ended = refl
-
-two-open : linesOf (97 ∷ 98 ∷ 10 ∷ 99 ∷ []) ≡ (97 ∷ 98 ∷ []) ∷ (99 ∷ []) ∷ []
-two-open = refl
-
-empty-between : linesOf (97 ∷ 10 ∷ 10 ∷ 99 ∷ []) ≡ (97 ∷ []) ∷ [] ∷ (99 ∷ []) ∷ []
-empty-between = refl

@@ -1,5 +1,4 @@
 pub mod Appending
 pub mod Decimal
 pub mod Rows
-pub mod LineLaws
 pub mod Examples

@@ -6,7 +6,7 @@ use mathlib.Core.Path.{_≡_, refl, sym, _∙_, ap}
 use mathlib.Core.List.{List, [], _∷_, _++_}
 use lib.ListN.{length, drop, getD, length-append, length-drop}
 use lib.Seq.{drop-cons}
-use Rattle.lines_text.specs.Lines.{newline}
+use Rattle.split.specs.Lines.{newline}
 use Rattle.lines_text.specs.Text.{space, field, stepLine, stepLines, pairLine, pairLines, readLine}
 use Rattle.lines_text.proofs.Decimal.{field-short}
 

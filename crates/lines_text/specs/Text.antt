@@ -6,7 +6,7 @@ use mathlib.Core.Bool.{cond}
 use mathlib.Core.List.{List, [], _∷_, _++_}
 use lib.Dec.{ltb}
 use lib.ListN.{length, take}
-use Rattle.lines_text.specs.Lines.{newline}
+use Rattle.split.specs.Lines.{newline}
 
 abbrev pub space : ℕ
 space = 32

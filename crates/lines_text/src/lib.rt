@@ -1,3 +1,2 @@
-// The texts of the program `lines`: the lines of its input, and what it prints.
-pub mod split;
+// The texts that the program `lines` prints.
 pub mod text;

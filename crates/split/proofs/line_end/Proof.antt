@@ -1,10 +1,10 @@
--- `split::line_end` meets its contract: no byte passed is a line end. The measure is what is left of the input.
+-- `line_end` meets its contract: no byte passed is a line end. The measure is what is left of the input.
 use Prim.Native.Nat.{_-_}
 use native.Mathlib.Omega.{arith}
 use lib.ListN.{length}
-use Rattle.lines_text.proofs.LineLaws.{Passed, passed-none, passed-more, ended-there, ended-last}
-use Rattle.lines_text.proofs.split.line_end.Statement.{statement}
-use Rattle.lines_text.proofs.split.line_end.Tie as tie
+use Rattle.split.proofs.LineLaws.{Passed, passed-none, passed-more, ended-there, ended-last}
+use Rattle.split.proofs.line_end.Statement.{statement}
+use Rattle.split.proofs.line_end.Tie as tie
 
 abbrev Inv-loop : tie.InvT-loop
 Inv-loop input at i₀ i = Passed input at i

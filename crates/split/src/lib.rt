@@ -1,7 +1,7 @@
 // The lines of an input, each ended by hex 0A, the last one with or without it.
 ghost use Prim.Native.Nat.{_<_};
 ghost use lib.ListN.{length};
-ghost use Rattle.lines_text.specs.Lines.{LineEnds};
+ghost use Rattle.split.specs.Lines.{LineEnds};
 
 // Where the line that starts at a place ends: at the next hex 0A, or else at the end of the input.
 pub fn line_end(input: &[u8], at: usize) -> usize

@@ -8,7 +8,7 @@ use lib.Dec.{eqb}
 use lib.ListN.{length, take, drop, getD, length-drop, drop-of-length-le}
 use lib.Seq.{take-suc, drop-cons, getD-drop, take-all}
 use borrow.Author.Tests.{eq-eqb, ne-eqb}
-use Rattle.lines_text.specs.Lines.{newline, inFront, linesOf, LineEnds}
+use Rattle.split.specs.Lines.{newline, inFront, linesOf, LineEnds}
 
 -- Several bytes in front of the first line.
 abbrev pub inFrontAll : List ℕ → List (List ℕ) → List (List ℕ)
