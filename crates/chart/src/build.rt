@@ -35,7 +35,7 @@ fn fill_cell(
     requires { ⌜ Between (grammarIn (now rules) many) (z .words) (z .symbols) (z .room) (now chart) (now marks) (now index) (now covers) (now sets) count × (z .base ≡ count) × RulesFit (z .symbols) (now rules) × Classified (grammarIn (now rules) many) (now by) × (c .left < z .symbols) × (c .from < c .to) × (c .to ≤ z .words) × (many ≤ 64) × (places (chartIn (now chart) count) (c .left) (c .from) (c .to) ≡ []) × CellSet (grammarIn (now rules) many) (wordIs (take (z .words) (now words))) (chartIn (now chart) count) (c .left) (c .from) (c .to - c .from) set × (z .words ≤ length (now words)) × Splits (grammarIn (now rules) many) (chartIn (now chart) count) (c .from) (c .to) (now both) splits ⌝ }
     ensures { λ r. ⌜ Filled (grammarIn (now (rules .entry)) many) (z .words) (z .symbols) (z .room) (OtherCell (c .left) (c .from) (c .to)) (fillCell (z .room) (grammarIn (now (rules .entry)) many) (wordIs (take (z .words) (now (words .entry)))) (c .to - c .from) (c .from) (c .left) (some (chartIn (now (chart .entry)) count))) (now (chart .entry)) count (now (chart .exit)) (now (marks .exit)) (now (index .exit)) (now (covers .exit)) (now (sets .exit)) r ⌝ }
 {
-    let now = crate::cell::fill_items(
+    let total = crate::cell::fill_items(
         chart,
         marks,
         index,
@@ -50,17 +50,17 @@ fn fill_cell(
         set,
         count,
     );
-    if z.room < now {
-        return now;
+    if z.room < total {
+        return total;
     }
-    if now == count {
-        return now;
+    if total == count {
+        return total;
     }
-    let r = crate::cell::finish(chart, marks, z, c, now);
+    let r = crate::cell::finish(chart, marks, z, c, total);
     let at = records::index::cell_at(z.words, z.symbols, wide(c.left), wide(c.from), wide(c.to));
     records::index::put_range(index, at, r);
     crate::sets::note(sets, by, z.words, c, r);
-    now
+    total
 }
 
 // What can add to a span: the word productions for its word, or those with both elements at some split, and these splits.
@@ -170,10 +170,10 @@ fn close_span(
         return count;
     }
     let mut a = crate::sets::next_left(by, set, 0, symbols);
-    let mut now = count;
+    let mut total = count;
     while a < symbols {
         let own = by[a] & set;
-        now = fill_left(
+        total = fill_left(
             chart,
             marks,
             index,
@@ -192,14 +192,14 @@ fn close_span(
             many,
             words,
             own,
-            now,
+            total,
         );
-        if room < now {
-            return now;
+        if room < total {
+            return total;
         }
         a = crate::sets::next_left(by, set, a + 1, symbols);
     }
-    now
+    total
 }
 
 // The spans that end at e + 1, from the shortest: each rests on those before it, and on earlier ends.
@@ -224,9 +224,9 @@ fn close_end(
     ensures { λ r. ⌜ Filled (grammarIn (now (rules .entry)) many) n symbols room (OtherEnd (e + 1)) (closeEnd room (grammarIn (now (rules .entry)) many) (wordIs (take n (now (words .entry)))) symbols e (some (chartIn (now (chart .entry)) count))) (now (chart .entry)) count (now (chart .exit)) (now (marks .exit)) (now (index .exit)) (now (covers .exit)) (now (sets .exit)) r × (length (now (both .exit)) ≡ 25) ⌝ }
 {
     let mut m = 0;
-    let mut now = count;
+    let mut total = count;
     while m <= e {
-        now = close_span(
+        total = close_span(
             chart,
             marks,
             index,
@@ -242,14 +242,14 @@ fn close_end(
             rules,
             many,
             words,
-            now,
+            total,
         );
-        if room < now {
-            return now;
+        if room < total {
+            return total;
         }
         m += 1;
     }
-    now
+    total
 }
 
 // All ends, from the left. The tables are lent, and are 0 at the start.
@@ -272,9 +272,9 @@ pub fn close_all(
     ensures { λ r. ⌜ Closed n symbols room (build room (grammarIn (now (rules .entry)) many) (wordIs (take n (now (words .entry)))) symbols n) (now (chart .entry)) (now (chart .exit)) r ⌝ }
 {
     let mut e = 0;
-    let mut now = 0;
+    let mut total = 0;
     while e < n {
-        now = close_end(
+        total = close_end(
             chart,
             marks,
             index,
@@ -289,12 +289,12 @@ pub fn close_all(
             rules,
             many,
             words,
-            now,
+            total,
         );
-        if room < now {
-            return now;
+        if room < total {
+            return total;
         }
         e += 1;
     }
-    now
+    total
 }

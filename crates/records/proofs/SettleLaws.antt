@@ -19,9 +19,9 @@ settled-length (suc m) bytes =
     length-set (set (settled m bytes) (16 * m + 14) 0) (16 * m + 15) 0 ∙ length-set (settled m bytes) (16 * m + 14) 0
     ∙ settled-length m bytes
 
-pub settled-more : (m : ℕ) (bytes now : List ℕ) → now ≡ settled m bytes
-    → set (set now (16 * m + 14) 0) (16 * m + 15) 0 ≡ settled (m + 1) bytes
-settled-more m bytes now e = rw (e, add-one)
+pub settled-more : (m : ℕ) (bytes here : List ℕ) → here ≡ settled m bytes
+    → set (set here (16 * m + 14) 0) (16 * m + 15) 0 ≡ settled (m + 1) bytes
+settled-more m bytes here e = rw (e, add-one)
 
 -- A record's two last bytes, with what stands before it and after it.
 set-past : (before l : List ℕ) (k : ℕ) → set (before ++ l) (length before + k) 0 ≡ before ++ set l k 0

@@ -25,7 +25,7 @@ fn continue_each(
     ensures { λ r. ⌜ Added (z .words) (z .symbols) (z .room) (c .left) (c .from) (c .to) (flatUp (continued (chartIn (now (chart .entry)) (z .base)) (c .left) (c .from) (c .to) (s .production) (s .position) y) from (to - from)) (now (chart .entry)) (now (marks .entry)) count (now (chart .exit)) (now (marks .exit)) r ⌝ }
 {
     let mut k = from;
-    let mut now = count;
+    let mut total = count;
     while k < to {
         let f = records::record::foot_at(chart, k);
         let number = records::record::number_at(chart, k);
@@ -35,13 +35,13 @@ fn continue_each(
             dependent: y,
             continuation: k as u16,
         };
-        now = records::add::add(chart, marks, z, c, f, number, step, now);
-        if z.room < now {
-            return now;
+        total = records::add::add(chart, marks, z, c, f, number, step, total);
+        if z.room < total {
+            return total;
         }
         k += 1;
     }
-    now
+    total
 }
 
 // The same for all the continuations of the cell at a place, which is noted then.
@@ -65,12 +65,12 @@ fn continue_all(
         return count;
     }
     let own = crate::hand::own_at(z, c);
-    let now = continue_each(chart, marks, z, c, s, y, from, to, count);
-    if z.room < now {
-        return now;
+    let total = continue_each(chart, marks, z, c, s, y, from, to, count);
+    if z.room < total {
+        return total;
     }
     records::cover::note(covers, own, at);
-    now
+    total
 }
 
 // Those of the dependent at y, if its index is the one to give. The cell of its foot is the eighth part of the foot's number; it is passed
@@ -132,13 +132,13 @@ pub fn give_each(
     ensures { λ r. ⌜ Advanced (z .words) (z .symbols) (z .room) (c .left) (c .from) (c .to) (z .base) (flatUp (givenFrom (chartIn (now (chart .entry)) (z .base)) (c .left) (c .from) (c .to) (s .production) (s .position) g) from (to - from)) (now (chart .entry)) (now (marks .entry)) count (now (chart .exit)) (now (marks .exit)) (now (covers .exit)) r ⌝ }
 {
     let mut y = from;
-    let mut now = count;
+    let mut total = count;
     while y < to {
-        now = give_one(chart, marks, index, covers, z, c, s, g, y, now);
-        if z.room < now {
-            return now;
+        total = give_one(chart, marks, index, covers, z, c, s, g, y, total);
+        if z.room < total {
+            return total;
         }
         y += 1;
     }
-    now
+    total
 }

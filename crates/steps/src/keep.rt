@@ -25,7 +25,7 @@ fn keep_each(
     ensures { λ r. ⌜ Added (z .words) (z .symbols) (z .room) (c .left) (c .from) (c .to) (flatUp (keptFrom (chartIn (now (chart .entry)) (z .base)) (c .left) (c .from) (c .to) (s .production) (s .position)) from (to - from)) (now (chart .entry)) (now (marks .entry)) count (now (chart .exit)) (now (marks .exit)) r ⌝ }
 {
     let mut y = from;
-    let mut now = count;
+    let mut total = count;
     while y < to {
         let f = records::record::foot_at(chart, y);
         let number = records::record::number_at(chart, y);
@@ -35,13 +35,13 @@ fn keep_each(
             dependent: y as u16,
             continuation: NOWHERE,
         };
-        now = records::add::add(chart, marks, z, c, f, number, step, now);
-        if z.room < now {
-            return now;
+        total = records::add::add(chart, marks, z, c, f, number, step, total);
+        if z.room < total {
+            return total;
         }
         y += 1;
     }
-    now
+    total
 }
 
 // The same for the dependents of the cell at a place, which is passed over where the cell in hand covers it.
@@ -67,10 +67,10 @@ pub fn keep_all(
     if records::cover::passes(covers, own, at) {
         return count;
     }
-    let now = keep_each(chart, marks, z, c, s, from, to, count);
-    if z.room < now {
-        return now;
+    let total = keep_each(chart, marks, z, c, s, from, to, count);
+    if z.room < total {
+        return total;
     }
     records::cover::note(covers, own, at);
-    now
+    total
 }

@@ -16,16 +16,16 @@ use Rattle.chart.proofs.build.close_end.Statement.{statement}
 use Rattle.chart.proofs.build.close_end.Tie as tie
 
 abbrev Inv-loop : tie.InvT-loop
-Inv-loop chart₀ marks₀ index₀ covers₀ sets₀ both₀ by n symbols room e rules many words count m₀ now₀ chart marks index covers sets both m now =
-    (m ≤ e + 1) × (now ≤ room)
+Inv-loop chart₀ marks₀ index₀ covers₀ sets₀ both₀ by n symbols room e rules many words count m₀ total₀ chart marks index covers sets both m total =
+    (m ≤ e + 1) × (total ≤ room)
     × Filled (grammarIn rules many) n symbols room (OtherEnd (e + 1))
     (foldUp (closeBack room (grammarIn rules many) (wordIs (take n words)) symbols e) m (some (chartIn chart₀ count)))
-    chart₀ count chart marks index covers sets now
+    chart₀ count chart marks index covers sets total
     × (length marks ≡ length marks₀) × (length index ≡ length index₀) × (length covers ≡ length covers₀)
     × (length sets ≡ length sets₀) × (length both ≡ 25)
 
 abbrev μ-loop : tie.MeasureT-loop
-μ-loop chart₀ marks₀ index₀ covers₀ sets₀ both₀ by n symbols room e rules many words count m₀ now₀ chart marks index covers sets both m now = e + 1 - m
+μ-loop chart₀ marks₀ index₀ covers₀ sets₀ both₀ by n symbols room e rules many words count m₀ total₀ chart marks index covers sets both m total = e + 1 - m
 
 loop-holds : tie.Need-loop-holds Inv-loop μ-loop
 loop-holds c =
@@ -48,7 +48,7 @@ close-span-requires c κs =
       omega (arith, p .3),
       p .4,
       (λ A. fresh-span (chartIn (a .chart .now) (a .count)) (a .room) (grammarIn (a .rules .now) (a .many)) (wordIs (take (a .n) (a .words .now)))
-          (a .symbols) (a .e) (l .m) A (c .before .before .before .before .before .before .loop-test .taken) (p .5) (state-some (a .room) (l .now) (l .chart) (inv .2 .model) (inv .1))),
+          (a .symbols) (a .e) (l .m) A (c .before .before .before .before .before .before .loop-test .taken) (p .5) (state-some (a .room) (l .total) (l .chart) (inv .2 .model) (inv .1))),
       p .6,
       inv .7,
     )

@@ -19,16 +19,16 @@ use Rattle.chart.proofs.build.close_span.Statement.{statement}
 use Rattle.chart.proofs.build.close_span.Tie as tie
 
 abbrev Inv-loop : tie.InvT-loop
-Inv-loop chart₀ marks₀ index₀ covers₀ sets₀ both by n symbols room i j rules many words count set splits a₀ now₀ chart marks index covers sets a now =
-    (a ≤ symbols) × (now ≤ room)
+Inv-loop chart₀ marks₀ index₀ covers₀ sets₀ both by n symbols room i j rules many words count set splits a₀ total₀ chart marks index covers sets a total =
+    (a ≤ symbols) × (total ≤ room)
     × Filled (grammarIn rules many) n symbols room (OtherSpan i j)
     (foldUp (fillCell room (grammarIn rules many) (wordIs (take n words)) (j - i) i) a (some (chartIn chart₀ count)))
-    chart₀ count chart marks index covers sets now
+    chart₀ count chart marks index covers sets total
     × (length marks ≡ length marks₀) × (length index ≡ length index₀) × (length covers ≡ length covers₀)
     × (length sets ≡ length sets₀)
 
 abbrev μ-loop : tie.MeasureT-loop
-μ-loop chart₀ marks₀ index₀ covers₀ sets₀ both by n symbols room i j rules many words count set splits a₀ now₀ chart marks index covers sets a now = symbols - a
+μ-loop chart₀ marks₀ index₀ covers₀ sets₀ both by n symbols room i j rules many words count set splits a₀ total₀ chart marks index covers sets a total = symbols - a
 
 -- The model's turns, and where they start.
 module _ (s : tie.Start Inv-loop μ-loop) where
@@ -104,7 +104,7 @@ fill-left-requires c κs =
     let l = c .before .before .before .before .before .before .before .before .loop in
     let inv = l .inv in
     let taken = c .before .before .before .before .before .before .before .loop-test .taken in
-    let state = state-some (a .room) (l .now) (l .chart) (inv .2 .model) (inv .1) in (
+    let state = state-some (a .room) (l .total) (l .chart) (inv .2 .model) (inv .1) in (
       inv .2 .ready (inv .1),
       p .1,
       p .2,

@@ -20,15 +20,15 @@ use Rattle.chart.proofs.cell.fill_items.Statement.{statement}
 use Rattle.chart.proofs.cell.fill_items.Tie as tie
 
 abbrev Inv-loop : tie.InvT-loop
-Inv-loop chart₀ marks₀ index covers₀ both splits z c rules many words set count rest₀ now₀ chart marks covers rest now =
+Inv-loop chart₀ marks₀ index covers₀ both splits z c rules many words set count rest₀ total₀ chart marks covers rest total =
     (y : ℕ)
     × Advancing (z .words) (z .symbols) (z .room) (c .left) (c .from) (c .to) (z .base)
     (λ b. chosen set rules (wordIs (take (z .words) words)) b (c .left) (c .from) (c .to - c .from)) 0 64 chart₀ marks₀ covers₀ count
-    chart marks covers y now
+    chart marks covers y total
     × Walk set rest y
 
 abbrev μ-loop : tie.MeasureT-loop
-μ-loop chart₀ marks₀ index covers₀ both splits z c rules many words set count rest₀ now₀ chart marks covers rest now = rest
+μ-loop chart₀ marks₀ index covers₀ both splits z c rules many words set count rest₀ total₀ chart marks covers rest total = rest
 
 -- The records of production p, if it is in the set.
 abbrev by : tie.Start Inv-loop μ-loop → List Record → ℕ → List Record
@@ -52,7 +52,7 @@ module _ (c : tie.After-least Inv-loop μ-loop) where
   passed : let a = start .args in
       let loop = c .before .before .loop in
       Advancing (a .z .words) (a .z .symbols) (a .z .room) (a .c .left) (a .c .from) (a .c .to) (a .z .base) (by start) 0 64
-      (a .chart .now) (a .marks .now) (a .covers .now) (a .count) (loop .chart) (loop .marks) (loop .covers) (c .least .result) (loop .now)
+      (a .chart .now) (a .marks .now) (a .covers .now) (a .count) (loop .chart) (loop .marks) (loop .covers) (c .least .result) (loop .total)
   passed =
       let a = start .args in
       let loop = c .before .before .loop in
@@ -68,7 +68,7 @@ turned : (c : tie.After-by-rule Inv-loop μ-loop)
     → let a = start (turn c) .args in
     let loop = turn c .before .before .loop in
     Advanced (a .z .words) (a .z .symbols) (a .z .room) (a .c .left) (a .c .from) (a .c .to) (a .z .base)
-    (by (start (turn c)) (chartIn (loop .chart) (a .z .base)) (turn c .least .result)) (loop .chart) (loop .marks) (loop .now)
+    (by (start (turn c)) (chartIn (loop .chart) (a .z .base)) (turn c .least .result)) (loop .chart) (loop .marks) (loop .total)
     (c .by-rule .last .0) (c .by-rule .last .1 .0) (c .by-rule .last .1 .1 .1 .0) (c .by-rule .result)
 turned c =
     let here = turn c in
