@@ -5,7 +5,7 @@ use records::index::Range;
 use records::record::Cell;
 use records::record::Foot;
 use records::record::NOWHERE;
-use records::record::Step;
+use records::record::Origin;
 use records::record::wide;
 ghost use mathlib.Core.Path.{_≡_};
 ghost use Prim.Native.Nat.{_+_, _-_, _≤_, _<_};
@@ -39,14 +39,14 @@ fn at_word(
             from: 0,
             to: 0,
         };
-        let step = Step {
+        let origin = Origin {
             production: p as u8,
             side: NOWHERE,
             dependent: NOWHERE,
             continuation: NOWHERE,
         };
         let number = z.symbols * (z.words * (z.words + 1) / 2) * 8;
-        return records::add::add(chart, marks, z, c, f, number, step, count);
+        return records::add::add(chart, marks, z, c, f, number, origin, count);
     }
     count
 }

@@ -2,7 +2,7 @@
 use crate::hand::Side;
 use records::add::Sizes;
 use records::record::Cell;
-use records::record::Step;
+use records::record::Origin;
 ghost use Prim.Native.Nat.{_-_, _≤_, _<_};
 ghost use Rattle.chart_model.specs.Build.{flatUp, continued, givenFrom};
 ghost use Rattle.records.specs.Room.{chartIn, Working, Added};
@@ -29,13 +29,13 @@ fn continue_each(
     while k < to {
         let f = records::record::foot_at(chart, k);
         let number = records::record::number_at(chart, k);
-        let step = Step {
+        let origin = Origin {
             production: s.production,
             side: s.position,
             dependent: y,
             continuation: k as u16,
         };
-        total = records::add::add(chart, marks, z, c, f, number, step, total);
+        total = records::add::add(chart, marks, z, c, f, number, origin, total);
         if z.room < total {
             return total;
         }

@@ -3,7 +3,7 @@ use crate::hand::Side;
 use records::add::Sizes;
 use records::record::Cell;
 use records::record::NOWHERE;
-use records::record::Step;
+use records::record::Origin;
 ghost use Prim.Native.Nat.{_-_, _≤_};
 ghost use Rattle.chart_model.specs.Build.{flatUp, keptFrom};
 ghost use Rattle.records.specs.Room.{chartIn, Working, Added};
@@ -29,13 +29,13 @@ fn keep_each(
     while y < to {
         let f = records::record::foot_at(chart, y);
         let number = records::record::number_at(chart, y);
-        let step = Step {
+        let origin = Origin {
             production: s.production,
             side: s.position,
             dependent: y as u16,
             continuation: NOWHERE,
         };
-        total = records::add::add(chart, marks, z, c, f, number, step, total);
+        total = records::add::add(chart, marks, z, c, f, number, origin, total);
         if z.room < total {
             return total;
         }

@@ -8,7 +8,7 @@ use records::add::Sizes;
 use records::record::Cell;
 use records::record::Foot;
 use records::record::NOWHERE;
-use records::record::Step;
+use records::record::Origin;
 use records::record::wide;
 ghost use mathlib.Core.Path.{_≡_};
 ghost use Prim.Native.Nat.{_-_, _≤_, _<_};
@@ -40,13 +40,13 @@ fn take_one(
     if to <= from {
         return count;
     }
-    let step = Step {
+    let origin = Origin {
         production: s.production,
         side: s.position,
         dependent: from as u16,
         continuation: NOWHERE,
     };
-    records::add::add(chart, marks, z, c, f, number, step, count)
+    records::add::add(chart, marks, z, c, f, number, origin, count)
 }
 
 fn by_action(
