@@ -68,9 +68,9 @@ abbrev pub numberThere : List ℕ → ℕ → ℕ
 numberThere bytes m = wordAt bytes (16 * m + 14)
 
 -- The bytes with zeros in place of the numbers of the first so many records.
-abbrev pub settled : ℕ → List ℕ → List ℕ
-settled zero bytes = bytes
-settled (suc m) bytes = set (set (settled m bytes) (16 * m + 14) 0) (16 * m + 15) 0
+abbrev pub numbersCleared : ℕ → List ℕ → List ℕ
+numbersCleared zero bytes = bytes
+numbersCleared (suc m) bytes = set (set (numbersCleared m bytes) (16 * m + 14) 0) (16 * m + 15) 0
 
 -- A mark is a bit for each number, eight to a byte.
 abbrev pub markAt : List ℕ → ℕ → Bool
