@@ -1,4 +1,4 @@
--- The candidates of one production over one split, as the steps find them: the table gives the records of a cell as a stretch of
+-- The candidates of one production over one split, as the steps find them: the table gives the records of a cell as a range of
 -- positions, so what the model makes from a list of positions is made place by place.
 use Prim.Native.Nat.{ℕ, suc, _+_, _*_, _-_, _/_, _≤_, _<_}
 use native.Mathlib.Omega.{arith}
@@ -23,7 +23,7 @@ use Rattle.records.specs.declared.record.Foot as declared
 use Rattle.records.specs.declared.index.Range.{Range}
 use Rattle.records.specs.Room.{footOf, footThere, footFields, chartIn, FootFits, Writable, footNumber, numberThere, Working, Added}
 use Rattle.records.specs.Index.{cellAt, rangeIn, bareIn, SpanFits, Indexed}
-use Rattle.records.specs.Cover.{Stretch}
+use Rattle.records.specs.Cover.{CellRange}
 use Rattle.records.proofs.RoomLaws.{chart-length, foot-at, number-there}
 use Rattle.records.proofs.TableLaws.{number-cell}
 use Rattle.steps.specs.declared.element.Element.{Element}
@@ -66,8 +66,8 @@ module _ {n N : ℕ} (chart : List ℕ) (base : ℕ) {index : List ℕ} (t : Ind
       subst (λ (R : Range). places (chartIn chart base) B p q ≡ counted (R .from) (R .to - R .from)) (sym read-range)
       (t .ranges B p q (s .0) (s .1) (s .2))
 
-  abbrev pub range-stretch : Stretch n N (chartIn chart base) at (R .from) (R .to)
-  range-stretch = record { symbol = B; start = p; end = q; fits = s; number = read-at; stands = range-places }
+  abbrev pub cell-range : CellRange n N (chartIn chart base) at (R .from) (R .to)
+  cell-range = record { symbol = B; start = p; end = q; fits = s; number = read-at; stands = range-places }
 
   pub range-bares : barePlaces (chartIn chart base) B p q ≡ bareIn (R .bare)
   range-bares =
@@ -149,11 +149,11 @@ module _ {n N room A i j : ℕ} {chart marks : List ℕ} {count : ℕ} (w : Work
         b : List Record
         b = chartIn chart base
 
--- A list of positions that is a stretch.
-stretched : (f : ℕ → List Record) {l : List ℕ} (from m : ℕ) → l ≡ counted from m → flatUp f from m ≡ concatMap f l
-stretched f from m t = sym (ap (concatMap f) t ∙ concatMap-counted f from m)
+-- A list of positions that is a range.
+ranged : (f : ℕ → List Record) {l : List ℕ} (from m : ℕ) → l ≡ counted from m → flatUp f from m ≡ concatMap f l
+ranged f from m t = sym (ap (concatMap f) t ∙ concatMap-counted f from m)
 
--- The three actions, from the stretch of the dependent's records.
+-- The three actions, from the range of the dependent's records.
 module _ (b : List Record) (D k m A i j p x : ℕ) where
   same-action : {a a′ : Action} → a ≡ a′ → byAction b (actionFrom a′) D k m A i j p x ≡ byAction b (actionFrom a) D k m A i j p x
   same-action e = ap (λ (a : Action). byAction b (actionFrom a) D k m A i j p x) (sym e)
@@ -165,11 +165,11 @@ module _ (b : List Record) (D k m A i j p x : ℕ) where
 
     pub by-keep : {a : Action} → a ≡ Keep
         → flatUp (keptFrom b A i j p x) (R .from) (R .to - R .from) ≡ byAction b (actionFrom a) D k m A i j p x
-    by-keep e = stretched (keptFrom b A i j p x) (R .from) (R .to - R .from) t ∙ same-action e
+    by-keep e = ranged (keptFrom b A i j p x) (R .from) (R .to - R .from) t ∙ same-action e
 
     pub by-give : {a : Action} {g : ℕ} → a ≡ Give g
         → flatUp (givenFrom b A i j p x g) (R .from) (R .to - R .from) ≡ byAction b (actionFrom a) D k m A i j p x
-    by-give {g = g} e = stretched (givenFrom b A i j p x g) (R .from) (R .to - R .from) t ∙ same-action e
+    by-give {g = g} e = ranged (givenFrom b A i j p x g) (R .from) (R .to - R .from) t ∙ same-action e
 
 -- The side's bare item, if there is one.
 module _ (f : ℕ → List Record) {l : List ℕ} (m : ℕ) (t : l ≡ bareIn m) where

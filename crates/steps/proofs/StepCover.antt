@@ -21,7 +21,7 @@ use Rattle.chart_model.proofs.Candidates.{places-in}
 use Rattle.chart_model.proofs.FillModel.{in-counted}
 use Rattle.records.specs.Room.{chartIn, Working, Added}
 use Rattle.records.specs.Index.{spans, cellAt, SpanFits}
-use Rattle.records.specs.Cover.{CoversIn, Covering, Stretch, Advanced, coveredIn, notedAnew}
+use Rattle.records.specs.Cover.{CoversIn, Covering, CellRange, Advanced, coveredIn, notedAnew}
 use Rattle.records.proofs.TableLaws.{cell-below, spans-more}
 use Rattle.records.proofs.AddLaws.{state-fits}
 use Rattle.records.proofs.CoverLaws.{chart-wider, each-wider, each-in, each-known, place-has, covering-wider, covering-below, covered-sound, covering-note, covering-anew}
@@ -34,7 +34,7 @@ counted-in k (suc m) x a b = elim (ℕ-discrete x k) [
   | no d ↦ List·Memᴰ·tail (counted-in (suc k) m x (omega arith) (omega arith))
 ]
 
--- Records made place by place, each with the foot that stands at its place, over the stretch of one cell's records.
+-- Records made place by place, each with the foot that stands at its place, over the range of one cell's records.
 module _ (b : List Record) (A i j : ℕ) (f : ℕ → List Record) (one : (x : ℕ) → map itemOf (f x) ≡ item A i j (footAt b x) ∷ [])
     (D k m from len : ℕ) (t : places b D k m ≡ counted from len) where
   all-known : (c : List Record) → CoversIn b c A i j D k m → (r : Record) → List·Memᴰ r (flatUp f from len) → Has c (itemOf r)
@@ -88,7 +88,7 @@ module _ {n N room A i j : ℕ} where
       }
 
   module _ {base : ℕ} {chart marks covers : List ℕ} {count : ℕ} (w : Working n N room A i j chart marks count) (v : base ≤ count)
-      {at from to : ℕ} (d : Stretch n N (chartIn chart base) at from to)
+      {at from to : ℕ} (d : CellRange n N (chartIn chart base) at from to)
       (t : Covering n N A i j (chartIn chart base) (chartIn chart count) covers) (fits : SpanFits n N A i j) where
     -- The places in the table, and the numbers that they have.
     pub note-fits : {own : ℕ} → own < spans n * N → (own < 65535) × (at < length covers)

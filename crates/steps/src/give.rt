@@ -7,7 +7,7 @@ ghost use Prim.Native.Nat.{_-_, _≤_, _<_};
 ghost use Rattle.chart_model.specs.Build.{flatUp, continued, givenFrom};
 ghost use Rattle.records.specs.Room.{chartIn, Working, Added};
 ghost use Rattle.records.specs.Index.{SpanFits, Indexed};
-ghost use Rattle.records.specs.Cover.{Covering, Stretch, Advanced};
+ghost use Rattle.records.specs.Cover.{Covering, CellRange, Advanced};
 
 // Each continuation of one dependent.
 fn continue_each(
@@ -58,7 +58,7 @@ fn continue_all(
     to: usize,
     count: usize,
 ) -> usize
-    requires { ⌜ Working (z .words) (z .symbols) (z .room) (c .left) (c .from) (c .to) (now chart) (now marks) count × (to ≤ z .base) × (z .base ≤ count) × Stretch (z .words) (z .symbols) (chartIn (now chart) (z .base)) at from to × Covering (z .words) (z .symbols) (c .left) (c .from) (c .to) (chartIn (now chart) (z .base)) (chartIn (now chart) count) (now covers) × SpanFits (z .words) (z .symbols) (c .left) (c .from) (c .to) ⌝ }
+    requires { ⌜ Working (z .words) (z .symbols) (z .room) (c .left) (c .from) (c .to) (now chart) (now marks) count × (to ≤ z .base) × (z .base ≤ count) × CellRange (z .words) (z .symbols) (chartIn (now chart) (z .base)) at from to × Covering (z .words) (z .symbols) (c .left) (c .from) (c .to) (chartIn (now chart) (z .base)) (chartIn (now chart) count) (now covers) × SpanFits (z .words) (z .symbols) (c .left) (c .from) (c .to) ⌝ }
     ensures { λ r. ⌜ Advanced (z .words) (z .symbols) (z .room) (c .left) (c .from) (c .to) (z .base) (flatUp (continued (chartIn (now (chart .entry)) (z .base)) (c .left) (c .from) (c .to) (s .production) (s .position) y) from (to - from)) (now (chart .entry)) (now (marks .entry)) count (now (chart .exit)) (now (marks .exit)) (now (covers .exit)) r ⌝ }
 {
     if to <= from {
