@@ -125,7 +125,7 @@ fn across_splits(
 }
 
 // What production p adds to the cell.
-fn by_rule(
+fn by_rule_over(
     chart: &mut [u8],
     marks: &mut [u8],
     index: &[u16],
@@ -190,7 +190,7 @@ pub fn fill_items(
     while rest != 0 {
         let p = crate::bits::least(rest);
         rest = crate::bits::without(rest, p);
-        total = by_rule(
+        total = by_rule_over(
             chart,
             marks,
             index,

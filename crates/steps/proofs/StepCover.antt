@@ -97,8 +97,8 @@ module _ {n N room A i j : ℕ} where
       omega (arith, t .long, d .number, cell-below n N (d .symbol) (d .start) (d .end) (d .fits .0) (d .fits .1) (d .fits .2)),
     )
 
-    pub passes-fits : {own : ℕ} → own < spans n * N → (own < 65535) × (at < length covers) × (getD covers at 0 ≤ length covers)
-    passes-fits h =
+    pub look-fits : {own : ℕ} → own < spans n * N → (own < 65535) × (at < length covers) × (getD covers at 0 ≤ length covers)
+    look-fits h =
         let (u, v) = note-fits h in
         (u, v, subst (λ (x : ℕ). getD covers x 0 ≤ length covers) (sym (d .number)) (covering-below t fits (d .fits)))
 

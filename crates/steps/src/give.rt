@@ -96,7 +96,7 @@ fn give_one(
     }
     let cell = records::record::number_at(chart, y) / 8;
     let own = crate::hand::own_at(z, c);
-    if records::cover::passes(covers, own, cell) {
+    if records::cover::is_covered(covers, own, cell) {
         return count;
     }
     let r = records::index::range_of(index, cell);

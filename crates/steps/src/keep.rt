@@ -64,7 +64,7 @@ pub fn keep_all(
         return count;
     }
     let own = crate::hand::own_at(z, c);
-    if records::cover::passes(covers, own, at) {
+    if records::cover::is_covered(covers, own, at) {
         return count;
     }
     let total = keep_each(chart, marks, z, c, s, from, to, count);

@@ -9,7 +9,7 @@ use Rattle.records.specs.Index.{spans, cellAt, rangeIn, SpanFits}
 use Rattle.records.specs.Cover.{Covering, CellRange}
 use Rattle.records.proofs.TableLaws.{cell-below}
 use Rattle.steps.proofs.StepCandidates.{to-below, cell-range, given-span, given-at, given-none, given-each}
-use Rattle.steps.proofs.StepCover.{advanced-kept, advanced-as, passes-fits, looked-at, passed-over}
+use Rattle.steps.proofs.StepCover.{advanced-kept, advanced-as, look-fits, looked-at, passed-over}
 use borrow.Author.Needs.{needs}
 use Rattle.steps.proofs.give.give_one.Statement.{statement}
 use Rattle.steps.proofs.give.give_one.Tie as tie
@@ -40,12 +40,12 @@ inside c =
     omega (arith, place c, cell-below (a .z .words) (a .z .symbols) (f .symbol) (f .from) (f .to) (s .0) (s .1) (s .2))
 
 -- The table of covers once the cell was looked for.
-right : (c : tie.After-passes) → let a = c .before .before .before .before .before .before .before .before .before .before .before .args in
+right : (c : tie.After-is-covered) → let a = c .before .before .before .before .before .before .before .before .before .before .before .args in
     Covering (a .z .words) (a .z .symbols) (a .c .left) (a .c .from) (a .c .to) (chartIn (a .chart .now) (a .z .base))
-    (chartIn (a .chart .now) (a .count)) (c .passes .last .0)
+    (chartIn (a .chart .now) (a .count)) (c .is-covered .last .0)
 right c =
     let q = c .before .before .before .before .before .before .before .before .before .before .before .pre in
-    looked-at (q .0) (q .2) (continuations (c .before .before .before) refl) (q .5) (q .6) (c .before .before .own-at .ensures .0) (c .passes .ensures .1)
+    looked-at (q .0) (q .2) (continuations (c .before .before .before) refl) (q .5) (q .6) (c .before .before .own-at .ensures .0) (c .is-covered .ensures .1)
 
 mul-given : tie.Need-mul-given
 mul-given c = search needs
@@ -67,10 +67,10 @@ number-at-requires c κs = search needs
 own-at-requires : tie.Need-own-at-requires
 own-at-requires c κs = search needs
 
-passes-requires : tie.Need-passes-requires
-passes-requires c κs =
+is-covered-requires : tie.Need-is-covered-requires
+is-covered-requires c κs =
     let q = c .before .before .before .before .before .before .before .before .before .before .pre in
-    passes-fits (q .0) (q .2) (continuations (c .before .before) refl) (q .5) (q .6) (c .before .own-at .ensures .1)
+    look-fits (q .0) (q .2) (continuations (c .before .before) refl) (q .5) (q .6) (c .before .own-at .ensures .1)
 
 same-length : tie.Need-same-length
 same-length c = search needs
@@ -84,7 +84,7 @@ returns-2 c =
     let a = c .before .before .before .before .before .before .before .before .before .before .before .before .before .before .args in
     let n = c .before .before .before .before .before .before in
     let R = rangeIn (a .index .now) (n .number-at .result / 8) in
-    let e = c .before .before .before .passes .ensures in
+    let e = c .before .before .before .is-covered .ensures in
     advanced-as (given-each (q .0) _ _ (q .1) (q .2) (n .before .before .if1 .left) (q .3) _ _ R (continuations n refl .stands))
     (passed-over (q .0) (q .2) (continuations n refl) (q .5) (q .6) _ (λ x. refl) (c .before .before .before .before .before .own-at .ensures .0) (sym (e .0) ∙ c .if2 .taken) (e .1))
 
@@ -128,7 +128,7 @@ give-one-spec =
     returns
     number-at-requires
     own-at-requires
-    passes-requires
+    is-covered-requires
     same-length
     same-length-2
     returns-2
