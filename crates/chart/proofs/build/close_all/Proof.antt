@@ -19,8 +19,8 @@ use Rattle.chart.proofs.build.close_all.Tie as tie
 abbrev Inv-loop : tie.InvT-loop
 Inv-loop chart₀ marks₀ index₀ covers₀ sets₀ both₀ by n symbols room rules many words e₀ total₀ chart marks index covers sets both e total =
     (e ≤ n) × (total ≤ room)
-    × Filled (grammarIn rules many) n symbols room (λ A i j. ⊥)
-    (foldUp (closeEnd room (grammarIn rules many) (wordIs (take n words)) symbols) e (some [])) chart₀ 0 chart marks index covers sets
+    × Filled (grammarIn rules many) n symbols room
+    (foldUp (closeEnd room (grammarIn rules many) (wordIs (take n words)) symbols) e (some [])) chart₀ chart marks index covers sets
     total
     × (length marks ≡ length marks₀) × (length index ≡ length index₀) × (length covers ≡ length covers₀)
     × (length sets ≡ length sets₀) × (length both ≡ 25)
@@ -75,8 +75,7 @@ returns c =
     let f = closeEnd (a .room) g at (a .symbols) in
     closed-all
     (fold-over f (l .e + 1) (a .n) (some []) (end-none (a .room) g at (a .symbols))
-    (fold-then f (l .e) (some []) (inv .2) (inv .1) (end-grows (a .room) g at (a .symbols)) (c .before .before .before .before .before .before .before .before .before .before .before .close-end .ensures .0)
-    (λ A i j o. absurd o)) (c .if1 .taken) (omega (arith, c .before .before .before .before .before .before .before .before .before .before .before .before .before .before .before .before .before .before .loop-test .taken)))
+    (fold-then f (l .e) (some []) (inv .2) (inv .1) (end-grows (a .room) g at (a .symbols)) (c .before .before .before .before .before .before .before .before .before .before .before .close-end .ensures .0)) (c .if1 .taken) (omega (arith, c .before .before .before .before .before .before .before .before .before .before .before .before .before .before .before .before .before .before .loop-test .taken)))
 
 add-e : tie.Need-add-e Inv-loop μ-loop
 add-e c = omega (arith, c .before .before .before .before .before .before .before .before .before .before .before .before .before .before .before .before .before .before .loop-test .taken, c .before .before .before .before .before .before .before .before .before .before .before .before .before .before .before .before .before .before .before .before .before .before .before .before .before .pre .0 .wordsFit)
@@ -95,8 +94,7 @@ loop-again c =
     let k = c .before .before .before .before .before .before .before .before .before .before .before .close-end .kept in (
       omega (arith, c .before .before .before .before .before .before .before .before .before .before .before .before .before .before .before .before .before .before .loop-test .taken),
       c .if1 .left,
-      fold-then f (l .e) (some []) (inv .2) (inv .1) (end-grows (a .room) g at (a .symbols)) (c .before .before .before .before .before .before .before .before .before .before .before .close-end .ensures .0)
-          (λ A i j o. absurd o),
+      fold-then f (l .e) (some []) (inv .2) (inv .1) (end-grows (a .room) g at (a .symbols)) (c .before .before .before .before .before .before .before .before .before .before .before .close-end .ensures .0),
       k .1 .0 ∙ inv .3,
       k .1 .1 .0 ∙ inv .4,
       k .1 .1 .1 .0 ∙ inv .5,
