@@ -26,9 +26,10 @@ last-at-requires c κs = search needs
 
 with-side-requires : tie.Need-with-side-requires
 with-side-requires c κs =
-    let s = c .before .before .before .before .before .before .before .before .before .before .before .before .before .before in
+    let r = c .before .before .before .before .before .before .before .before in
+    let s = r .before .before .before .before .before .before in
     let q = s .pre in
-    let (a, side, dependent) = first-fits (s .args .z .symbols) (s .args .rule) (q .3) (c .before .before .before .before .before .before .before .before .rule .given .1) in
+    let (a, side, dependent) = first-fits (s .args .z .symbols) (s .args .rule) (q .3) (r .rule .given .1) in
     (q .0, q .1, q .2, a, search needs, search needs, q .7, q .8)
 
 enum-known-rule-2 : tie.Need-enum-known-rule-2
@@ -47,9 +48,10 @@ last-at-requires-2 c κs = search needs
 
 with-side-requires-2 : tie.Need-with-side-requires-2
 with-side-requires-2 c κs =
-    let s = c .before .before .before .before .before .before .before .before .before .before .before .before .before .before in
+    let r = c .before .before .before .before .before .before .before .before in
+    let s = r .before .before .before .before .before .before in
     let q = s .pre in
-    let (a, side, dependent) = last-fits (s .args .z .symbols) (s .args .rule) (q .3) (c .before .before .before .before .before .before .before .before .rule2 .given .1) in
+    let (a, side, dependent) = last-fits (s .args .z .symbols) (s .args .rule) (q .3) (r .rule2 .given .1) in
     (q .0, q .1, q .2, a, search needs, search needs, q .7, q .8)
 
 returns-3 : tie.Need-returns-3
@@ -68,8 +70,10 @@ same-length-3 c = search needs
 
 returns-4 : tie.Need-returns-4
 returns-4 c =
-    let w = c .before .before .before .before .before .before .before in
-    advanced-as (first-same _ _ _ _ (w .before .before .before .before .before .before .before .before .rule .given .1) (w .before .before .before .before .before .if1 .left) (w .before .before .before .before .first-at .ensures) (w .before .before .before .last-at .ensures))
+    let d = c .before .before .before .before .before .before .before .before .before .before in
+    advanced-as
+    (first-same _ _ _ _ (d .before .before .before .before .before .rule .given .1) (d .before .before .if1 .left)
+    (d .before .first-at .ensures) (d .last-at .ensures))
     (c .before .before .before .before .before .before .with-side .ensures)
 
 same-length-4 : tie.Need-same-length-4
@@ -83,8 +87,10 @@ same-length-6 c = search needs
 
 returns-5 : tie.Need-returns-5
 returns-5 c =
-    let w = c .before .before .before .before .before .before .before in
-    advanced-as (last-same _ _ _ _ (w .before .before .before .before .before .before .before .before .rule2 .given .1) (w .before .before .before .before .before .if2 .left) (w .before .before .before .before .first-at2 .ensures) (w .before .before .before .last-at2 .ensures))
+    let d = c .before .before .before .before .before .before .before .before .before .before in
+    advanced-as
+    (last-same _ _ _ _ (d .before .before .before .before .before .rule2 .given .1) (d .before .before .if2 .left)
+    (d .before .first-at2 .ensures) (d .last-at2 .ensures))
     (c .before .before .before .before .before .before .with-side2 .ensures)
 
 pub by-production-spec : {M : Type 1} → statement M
