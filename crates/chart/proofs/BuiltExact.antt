@@ -16,10 +16,10 @@ use Rattle.grammar.proofs.InputLaws.{words-below}
 use Rattle.layout.specs.Card.{nonterminalCount, productionCount, grammarOf}
 use Rattle.layout.specs.Records.{chartBytes, capacity}
 use Rattle.layout.proofs.CardLaws.{card-one-sided}
-use Rattle.records.specs.Room.{chartIn, numberedChart, settled}
+use Rattle.records.specs.Room.{chartIn, numberedChart, numbersCleared}
 use Rattle.records.specs.Index.{spans}
 use Rattle.records.proofs.RoomLaws.{numbered-chart-length}
-use Rattle.records.proofs.SettleLaws.{settled-chart}
+use Rattle.records.proofs.NumbersCleared.{cleared-chart}
 use Rattle.records.proofs.TableLaws.{spans-more}
 use Rattle.chart_model.specs.Build.{build}
 use Rattle.chart_model.proofs.Exact.{build-chart, build-room, build-none}
@@ -71,13 +71,13 @@ closed-as {after = after} {old = old} {new = new} room n rules words e f c =
 
 -- A room that holds a chart with numbers holds the finished chart once they are cleared.
 finished : {after : ℕ} {c : List Record} {new : List ℕ} (n N : ℕ) (old : List ℕ) → after ≡ length c → c ≡ chartIn new after
-    → new ≡ numberedChart n N c ++ drop (16 * length c) old → settled after new ≡ chartBytes c ++ drop (16 * length c) old
+    → new ≡ numberedChart n N c ++ drop (16 * length c) old → numbersCleared after new ≡ chartBytes c ++ drop (16 * length c) old
 finished {after} {c} {new} n N old same read written =
     let rest = drop (16 * length c) old in
     let long : length (numberedChart n N c) ≡ 16 * after = omega (arith, numbered-chart-length n N c) in
     let exact : take (16 * after) new ≡ numberedChart n N (chartIn new after) =
     ap (take (16 * after)) written ∙ take-at (numberedChart n N c) rest (16 * after) long ∙ ap (numberedChart n N) read in
-    settled-chart n N new after exact
+    cleared-chart n N new after exact
     ∙ ap₂ _++_ (ap chartBytes (sym read)) (ap (drop (16 * after)) written ∙ drop-at (numberedChart n N c) rest (16 * after) long)
 
 module _ (card words : List ℕ) (n room : ℕ) (b : Buildable card words n) where
@@ -115,12 +115,12 @@ module _ (card words : List ℕ) (n room : ℕ) (b : Buildable card words n) whe
 
   pub within-room : {old new : List ℕ} {after : ℕ} → Closed n (nonterminalCount card) room result old new after → after ≤ room
       → (c : List Record) × IsChart (grammarOf card) (Holds (wordIs (take n words))) c × (after ≡ length c) × (length c ≤ room)
-      × (settled after new ≡ chartBytes c ++ drop (16 * length c) old)
+      × (numbersCleared after new ≡ chartBytes c ++ drop (16 * length c) old)
   within-room {old} {new} {after} c h = go result refl
     where
       go : (s : Option (List Record)) → result ≡ s
           → (c : List Record) × IsChart (grammarOf card) (Holds (wordIs (take n words))) c × (after ≡ length c) × (length c ≤ room)
-          × (settled after new ≡ chartBytes c ++ drop (16 * length c) old)
+          × (numbersCleared after new ≡ chartBytes c ++ drop (16 * length c) old)
       go none e = absurd (omega (arith, decided none e c .1 refl))
       go (some k) e =
           let one = card-one-sided card in
@@ -142,7 +142,7 @@ module _ {card words old new : List ℕ} {n room after : ℕ} (b : Buildable car
     e ∙ ap (λ (k : ℕ). replicate k 0) (c .sameRoom),
   )
 
-  pub built-within : {cleared : List ℕ} → after ≤ room → cleared ≡ settled after new
+  pub built-within : {cleared : List ℕ} → after ≤ room → cleared ≡ numbersCleared after new
       → BuiltRoom card (take n words) n (Chart after) old cleared
   built-within h e =
       let (k, chart, same, fits, written) = within-room card words n room b c h in

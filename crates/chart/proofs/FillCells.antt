@@ -14,13 +14,13 @@ use Rattle.grammar.specs.Rewriting.{Rule, Lexical, Spine}
 use Rattle.grammar.specs.Input.{wordIs}
 use Rattle.grammar.specs.Chart.{Record}
 use Rattle.chart_model.specs.Build.{places, barePlaces, byWord, acrossSplits, byRuleOver, addEach, fillCell}
-use Rattle.chart_model.proofs.FillModel.{IsCell, Grown, same, cell-grown, places-other, bareAt, bares-own, fresh-among}
+use Rattle.chart_model.proofs.FillModel.{IsCell, Grown, same, cell-grown, bareAt, bares-own, fresh-among}
 use Rattle.records.specs.declared.index.Range.{Range}
 use Rattle.records.specs.Room.{chartIn, stateOf}
 use Rattle.records.specs.Index.{cellAt, bareIn, SpanFits}
 use Rattle.records.specs.Cover.{Covered, Advanced}
 use Rattle.chart.specs.Tables.{thisWord, rulesFrom, grammarIn, Finished}
-use Rattle.chart.specs.Fill.{Classified, Noted, Between, Filled, OtherCell}
+use Rattle.chart.specs.Fill.{Classified, Noted, Between, Filled}
 use Rattle.records.proofs.RoomLaws.{chart-length, chart-kept-below}
 use Rattle.records.proofs.CoverLaws.{grown-has, grown-others, end-covered}
 use Rattle.chart.proofs.FillLaws.{state-some, entered, bareFrom-at, bareFrom-le, indexed-more, sorted-more, marks-clear}
@@ -67,16 +67,15 @@ pub grammar-length : (rules : List ℕ) (many : ℕ) → length (grammarIn rules
 grammar-length rules many = omega (arith, length-take many (rulesFrom rules))
 
 -- An item did not fit: nothing more is promised.
-pub over-filled : {g : List Rule} {n N room count after : ℕ} {Other : ℕ → ℕ → ℕ → Type 0} {s : Option (List Record)}
+pub over-filled : {g : List Rule} {n N room after : ℕ} {s : Option (List Record)}
     {old new marks index covers sets : List ℕ} → length new ≡ length old → stateOf room new after ≡ s → room < after
-    → Filled g n N room Other s old count new marks index covers sets after
+    → Filled g n N room s old new marks index covers sets after
 over-filled a e l =
     record {
       sameRoom = a;
       model = e;
       rest = λ h. absurd (omega arith);
       ready = λ h. absurd (omega arith);
-      others = λ h. absurd (omega arith);
     }
 
 -- The table of covers once a cell is filled, which may have changed although the cell got nothing new.
@@ -90,7 +89,7 @@ cell-covered A i j within fresh a fits grown =
 pub same-filled : {g : List Rule} {n N room count after : ℕ} {old oldMarks index covers sets new marks covers′ : List ℕ}
     {rs : List Record} (A i j : ℕ) → Between g n N room old oldMarks index covers sets count → SpanFits n N A i j
     → places (chartIn old count) A i j ≡ [] → Advanced n N room A i j count rs old oldMarks count new marks covers′ after → after ≡ count
-    → Filled g n N room (OtherCell A i j) (addEach room rs (some (chartIn old count))) old count new marks index covers′ sets after
+    → Filled g n N room (addEach room rs (some (chartIn old count))) old new marks index covers′ sets after
 same-filled {room = room} {count} {after} {old} {new = new} A i j b within fresh advanced e =
     let a = advanced .added in
     let fits : after ≤ room = omega (arith, b .countFits) in
@@ -115,7 +114,6 @@ same-filled {room = room} {count} {after} {old} {new = new} A i j b within fresh
         covered = cell-covered A i j within fresh advanced fits
             (subst (λ (c : List Record). Grown (IsCell A i j) (chartIn old count) c) (sym kept) same);
       };
-      others = λ _ A′ i′ j′ o. rw kept;
     }
 
 -- How a cell has grown the chart.
@@ -143,7 +141,7 @@ cell-ready : {g : List Rule} {n N room base count after : ℕ} {old oldMarks ind
     → j ≤ n → places (chartIn old count) A i j ≡ [] → Advanced n N room A i j count rs old oldMarks count new marks covers′ after
     → Grown (IsCell A i j) (chartIn old count) (chartIn new after) → after ≤ room → base ≡ count
     → Finished new base after marks marks′ r → 3 * cellAt N A i j + 3 ≤ length index → Noted n by A i j (r .bare) sets sets′
-    → Filled g n N room (OtherCell A i j) (addEach room rs (some (chartIn old count))) old count new marks′
+    → Filled g n N room (addEach room rs (some (chartIn old count))) old new marks′
     (entered index (cellAt N A i j) r) covers′ sets′ after
 cell-ready {n = n} {N} {room} {base} {count} {after} {old} {index = index} {sets} {new} {sets′ = sets′} {by} {r = r} A i j
     b classes inN ij jn fresh advanced grown fits eq done l noted =
@@ -180,7 +178,6 @@ cell-ready {n = n} {N} {room} {base} {count} {after} {old} {index = index} {sets
         sorted = sorted-more _ n A i j (omega (arith, b .symbolsFit)) ij jn grown by sets sets′ (r .bare) classes (b .sorted) noted lone;
         covered = cell-covered A i j (inN, ij, jn) fresh advanced fits grown;
       };
-      others = λ _ A′ i′ j′ o. places-other A′ i′ j′ (λ (x, y, z). o x y z) grown;
     }
 
 -- The same where the place in the index is known by equations.
@@ -193,7 +190,7 @@ pub cell-filled : {g : List Rule} {n N room base count after : ℕ} {old oldMark
     → Grown (IsCell A i j) (chartIn old count) (chartIn new after) → after ≤ room → base ≡ count
     → Finished new base after marks marks′ r → cell ≡ cellAt N A i j → 3 * cell + 3 ≤ length index → index′ ≡ entered index cell r
     → Noted n by A i j (r .bare) sets sets′
-    → Filled g n N room (OtherCell A i j) (addEach room rs (some (chartIn old count))) old count new marks′ index′ covers′ sets′ after
+    → Filled g n N room (addEach room rs (some (chartIn old count))) old new marks′ index′ covers′ sets′ after
 cell-filled {n = n} {N} {index = index} {r = r} A i j cell b classes inN ij jn fresh a grown fits eq done e l put noted =
     rw (put, e)
     (cell-ready A i j b classes inN ij jn fresh a grown fits eq done

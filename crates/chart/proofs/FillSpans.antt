@@ -178,16 +178,15 @@ drop-later x y m k e l =
     rw s (sym (drop-drop (k - m) m x) ∙ (ap (drop (k - m)) e ∙ drop-drop (k - m) m y))
 
 -- Nothing was filled yet.
-pub filled-none : {g : List Rule} {n N room count : ℕ} {Other : ℕ → ℕ → ℕ → Type 0} {s : Option (List Record)}
+pub filled-none : {g : List Rule} {n N room count : ℕ} {s : Option (List Record)}
     {chart marks index covers sets : List ℕ} → Between g n N room chart marks index covers sets count → s ≡ some (chartIn chart count)
-    → Filled g n N room Other s chart count chart marks index covers sets count
+    → Filled g n N room s chart chart marks index covers sets count
 filled-none {room = room} {count} {chart = chart} b e =
     record {
       sameRoom = refl;
       model = rw (le-leb count room (b .countFits)) (sym e);
       rest = λ _. refl;
       ready = λ _. b;
-      others = λ _ A i j o. refl;
     }
 
 -- Turns only add records.
@@ -204,94 +203,91 @@ module _ (room : ℕ) (g : List Rule) (at : ℕ → ℕ → Bool) where
   pub end-grows : (N : ℕ) → Grows (closeEnd room g at N)
   end-grows N e c b q = grown-length (end-grown room g at N e (suc e) (le-refl (suc e)) q)
 
-module _ {g : List Rule} {n N room count now : ℕ} {Other : ℕ → ℕ → ℕ → Type 0} {old mid marks index covers sets : List ℕ}
+module _ {g : List Rule} {n N room total : ℕ} {old mid marks index covers sets : List ℕ}
     (f : ℕ → Option (List Record) → Option (List Record)) (m : ℕ) (s : Option (List Record))
-    (sofar : Filled g n N room Other (foldUp f m s) old count mid marks index covers sets now) (fits : now ≤ room) where
+    (sofar : Filled g n N room (foldUp f m s) old mid marks index covers sets total) (fits : total ≤ room) where
   -- One turn more.
-  pub fold-then : {after : ℕ} {Other′ : ℕ → ℕ → ℕ → Type 0} {new marks′ index′ covers′ sets′ : List ℕ} → Grows f
-      → Filled g n N room Other′ (f m (some (chartIn mid now))) mid now new marks′ index′ covers′ sets′ after
-      → ((A i j : ℕ) → Other A i j → Other′ A i j)
-      → Filled g n N room Other (foldUp f (m + 1) s) old count new marks′ index′ covers′ sets′ after
-  fold-then {after} {new = new} grows turn narrower =
+  pub fold-then : {after : ℕ} {new marks′ index′ covers′ sets′ : List ℕ} → Grows f
+      → Filled g n N room (f m (some (chartIn mid total))) mid new marks′ index′ covers′ sets′ after
+      → Filled g n N room (foldUp f (m + 1) s) old new marks′ index′ covers′ sets′ after
+  fold-then {after} {new = new} grows turn =
       record {
         sameRoom = turn .sameRoom ∙ sofar .sameRoom;
         model = turn .model ∙ (ap (f m) (sym state) ∙ sym (foldUp-more f m s));
-        rest = λ h. turn .rest h ∙ drop-later mid old (16 * now) (16 * after) (sofar .rest fits) (omega (arith, later h));
+        rest = λ h. turn .rest h ∙ drop-later mid old (16 * total) (16 * after) (sofar .rest fits) (omega (arith, later h));
         ready = turn .ready;
-        others = λ h A i j o. turn .others h A i j (narrower A i j o) ∙ sofar .others fits A i j o;
       }
     where
-      state : foldUp f m s ≡ some (chartIn mid now)
-      state = state-some room now mid (sofar .model) fits
+      state : foldUp f m s ≡ some (chartIn mid total)
+      state = state-some room total mid (sofar .model) fits
 
-      later : after ≤ room → now ≤ after
+      later : after ≤ room → total ≤ after
       later h =
           omega (
             arith,
-            chart-length mid now,
+            chart-length mid total,
             chart-length new after,
-            grows m (chartIn mid now) (chartIn new after) (state-some room after new (turn .model) h),
+            grows m (chartIn mid total) (chartIn new after) (state-some room after new (turn .model) h),
           )
 
   -- A turn that changes nothing.
-  pub fold-skip : f m (some (chartIn mid now)) ≡ some (chartIn mid now)
-      → Filled g n N room Other (foldUp f (m + 1) s) old count mid marks index covers sets now
+  pub fold-skip : f m (some (chartIn mid total)) ≡ some (chartIn mid total)
+      → Filled g n N room (foldUp f (m + 1) s) old mid marks index covers sets total
   fold-skip idle =
       record {
         sameRoom = sofar .sameRoom;
         model = sofar .model ∙ (state ∙ (sym idle ∙ (ap (f m) (sym state) ∙ sym (foldUp-more f m s))));
         rest = sofar .rest;
         ready = sofar .ready;
-        others = sofar .others;
       }
     where
-      state : foldUp f m s ≡ some (chartIn mid now)
-      state = state-some room now mid (sofar .model) fits
+      state : foldUp f m s ≡ some (chartIn mid total)
+      state = state-some room total mid (sofar .model) fits
 
 -- Turns that change nothing, up to k.
-fold-pass : {g : List Rule} {n N room count now : ℕ} {Other : ℕ → ℕ → ℕ → Type 0} {old mid marks index covers sets : List ℕ}
+fold-pass : {g : List Rule} {n N room total : ℕ} {old mid marks index covers sets : List ℕ}
     (f : ℕ → Option (List Record) → Option (List Record)) (m k : ℕ) (s : Option (List Record)) → m ≤ k
-    → Filled g n N room Other (foldUp f m s) old count mid marks index covers sets now → now ≤ room
-    → ((l : ℕ) → m ≤ l → l < k → f l (some (chartIn mid now)) ≡ some (chartIn mid now))
-    → Filled g n N room Other (foldUp f k s) old count mid marks index covers sets now
-fold-pass {g} {n} {N} {room} {count} {now} {Other} {old} {mid} {marks} {index} {covers} {sets} f m k s h sofar fits idle =
+    → Filled g n N room (foldUp f m s) old mid marks index covers sets total → total ≤ room
+    → ((l : ℕ) → m ≤ l → l < k → f l (some (chartIn mid total)) ≡ some (chartIn mid total))
+    → Filled g n N room (foldUp f k s) old mid marks index covers sets total
+fold-pass {g} {n} {N} {room} {total} {old} {mid} {marks} {index} {covers} {sets} f m k s h sofar fits idle =
     let e : m + (k - m) ≡ k = omega arith in
-    subst (λ (x : ℕ). Filled g n N room Other (foldUp f x s) old count mid marks index covers sets now) e (go (k - m) (omega arith))
+    subst (λ (x : ℕ). Filled g n N room (foldUp f x s) old mid marks index covers sets total) e (go (k - m) (omega arith))
   where
-    go : (d : ℕ) → m + d ≤ k → Filled g n N room Other (foldUp f (m + d) s) old count mid marks index covers sets now
+    go : (d : ℕ) → m + d ≤ k → Filled g n N room (foldUp f (m + d) s) old mid marks index covers sets total
     go zero l = rw add-zero sofar
     go (suc d) l =
         let e : m + d + 1 ≡ m + suc d = omega arith in
-        subst (λ (x : ℕ). Filled g n N room Other (foldUp f x s) old count mid marks index covers sets now) e
+        subst (λ (x : ℕ). Filled g n N room (foldUp f x s) old mid marks index covers sets total) e
         (fold-skip f (m + d) s (go d (omega arith)) fits (idle (m + d) (omega arith) (omega arith)))
 
 -- In a span: the nonterminals up to the next that has a production in its set.
-pub span-pass : {g : List Rule} {n N count now : ℕ} {Other : ℕ → ℕ → ℕ → Type 0}
+pub span-pass : {g : List Rule} {n N count total : ℕ}
     {chart marks index covers sets by words both mid marks′ index′ covers′ sets′ : List ℕ} {i j : ℕ} {r : Meeting} (room : ℕ)
     → Between g n N room chart marks index covers sets count → Classified g by → SpanSet by sets words i j both r → i < j → j ≤ n
-    → (m A : ℕ) → NextLeft by (r .productions) m N A → now ≤ room
+    → (m A : ℕ) → NextLeft by (r .productions) m N A → total ≤ room
     → let f = fillCell room g (wordIs (take n words)) (j - i) i in
-    Filled g n N room Other (foldUp f m (some (chartIn chart count))) chart count mid marks′ index′ covers′ sets′ now
-    → Filled g n N room Other (foldUp f A (some (chartIn chart count))) chart count mid marks′ index′ covers′ sets′ now
+    Filled g n N room (foldUp f m (some (chartIn chart count))) chart mid marks′ index′ covers′ sets′ total
+    → Filled g n N room (foldUp f A (some (chartIn chart count))) chart mid marks′ index′ covers′ sets′ total
 span-pass {g} {n} {words = words} {mid = mid} {i = i} {j} room b classes spans ij jn m A next fits sofar =
     fold-pass (fillCell room g (wordIs (take n words)) (j - i) i) m A _ (next .later) sofar fits
     (λ l u v. idle-turn room b classes spans ij jn m (state-some room _ mid (sofar .model) fits) l (omega (arith, next .within))
     (next .passed l u v))
 
 -- An item did not fit in some turn: so none does at the end.
-pub fold-over : {g : List Rule} {n N room count after : ℕ} {Other : ℕ → ℕ → ℕ → Type 0}
+pub fold-over : {g : List Rule} {n N room after : ℕ}
     {old new marks index covers sets : List ℕ} (f : ℕ → Option (List Record) → Option (List Record)) (m k : ℕ) (s : Option (List Record))
     → ((l : ℕ) → f l none ≡ none)
-    → Filled g n N room Other (foldUp f m s) old count new marks index covers sets after → room < after → m ≤ k
-    → Filled g n N room Other (foldUp f k s) old count new marks index covers sets after
+    → Filled g n N room (foldUp f m s) old new marks index covers sets after → room < after → m ≤ k
+    → Filled g n N room (foldUp f k s) old new marks index covers sets after
 fold-over {room = room} {after = after} {new = new} f m k s stays last over l =
     let gone = state-over room after new (last .model) over in
     over-filled (last .sameRoom) (last .model ∙ (gone ∙ sym (fold-none f s m k stays gone l))) over
 
-pub fold-at : {g : List Rule} {n N room count after : ℕ} {Other : ℕ → ℕ → ℕ → Type 0} {old new marks index covers sets : List ℕ}
+pub fold-at : {g : List Rule} {n N room after : ℕ} {old new marks index covers sets : List ℕ}
     (f : ℕ → Option (List Record) → Option (List Record)) (m k : ℕ) (s : Option (List Record)) → m ≡ k
-    → Filled g n N room Other (foldUp f m s) old count new marks index covers sets after
-    → Filled g n N room Other (foldUp f k s) old count new marks index covers sets after
+    → Filled g n N room (foldUp f m s) old new marks index covers sets after
+    → Filled g n N room (foldUp f k s) old new marks index covers sets after
 fold-at f m k s e h = rw e at h
 
 -- The next span of an end, and the spans of the next end, are still without records.
@@ -305,17 +301,17 @@ pub fresh-end : {b : List Record} (room : ℕ) (g : List Rule) (at : ℕ → ℕ
 fresh-end room g at N e A i q = places-other A i (e + 1) (λ h. omega arith) (all-grown room g at N e q)
 
 -- The turn for the span of m + 1 words, in the model's terms.
-pub span-turn : {g : List Rule} {n N room now after : ℕ} {Other : ℕ → ℕ → ℕ → Type 0} {mid new marks index covers sets : List ℕ}
-    (at : ℕ → ℕ → Bool) (e m : ℕ) → m ≤ e
-    → Filled g n N room Other (closeSpan room g at N (e + 1 - (e - m)) (e - m) (some (chartIn mid now))) mid now new marks index covers sets after
-    → Filled g n N room Other (closeBack room g at N e m (some (chartIn mid now))) mid now new marks index covers sets after
-span-turn {g} {n} {N} {room} {now} {after} {Other} {mid} {new} {marks} {index} {covers} {sets} at e m l h =
+pub span-turn : {g : List Rule} {n N room after : ℕ} {mid new marks index covers sets : List ℕ}
+    (at : ℕ → ℕ → Bool) (e m total : ℕ) → m ≤ e
+    → Filled g n N room (closeSpan room g at N (e + 1 - (e - m)) (e - m) (some (chartIn mid total))) mid new marks index covers sets after
+    → Filled g n N room (closeBack room g at N e m (some (chartIn mid total))) mid new marks index covers sets after
+span-turn {g} {n} {N} {room} {after} {mid} {new} {marks} {index} {covers} {sets} at e m total l h =
     let q : e + 1 - (e - m) ≡ suc m = omega arith in
-    subst (λ (k : ℕ). Filled g n N room Other (closeSpan room g at N k (e - m) (some (chartIn mid now))) mid now new marks index covers sets after) q h
+    subst (λ (k : ℕ). Filled g n N room (closeSpan room g at N k (e - m) (some (chartIn mid total))) mid new marks index covers sets after) q h
 
 -- All ends are closed.
-module _ {g : List Rule} {n N room count after : ℕ} {Other : ℕ → ℕ → ℕ → Type 0} {s : Option (List Record)}
-    {old new marks index covers sets : List ℕ} (filled : Filled g n N room Other s old count new marks index covers sets after) where
+module _ {g : List Rule} {n N room after : ℕ} {s : Option (List Record)}
+    {old new marks index covers sets : List ℕ} (filled : Filled g n N room s old new marks index covers sets after) where
   past : s ≡ none → Dec (after ≤ room) → room < after
   past e (yes l) = absurd (none-some (sym e ∙ state-some room after new (filled .model) l))
   past e (no d) = omega arith

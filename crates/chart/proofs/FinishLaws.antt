@@ -27,16 +27,16 @@ still-clear l at s e = elim (ℕ-discrete s at) [
 ]
 
 -- A foot with index 0 is bare, and no other is.
-pub found-bare : (f : declared.Foot) (φ : Foot) (m now : ℕ) → footFrom f ≡ φ → f .index ≡ 0 → m ≡ cond (isBare φ) m now
-found-bare f φ m now e z = rw (← e, eq-eqb (f .index) 0 z)
+pub found-bare : (f : declared.Foot) (φ : Foot) (m found : ℕ) → footFrom f ≡ φ → f .index ≡ 0 → m ≡ cond (isBare φ) m found
+found-bare f φ m found e z = rw (← e, eq-eqb (f .index) 0 z)
 
-pub found-foot : (f : declared.Foot) (φ : Foot) (m now : ℕ) → footFrom f ≡ φ → (f .index ≡ 0 → ⊥) → now ≡ cond (isBare φ) m now
-found-foot f φ m now e d = rw (← e, ne-eqb (f .index) 0 d)
+pub found-foot : (f : declared.Foot) (φ : Foot) (m found : ℕ) → footFrom f ≡ φ → (f .index ≡ 0 → ⊥) → found ≡ cond (isBare φ) m found
+found-foot f φ m found e d = rw (← e, ne-eqb (f .index) 0 d)
 
 -- The bare item among one record more.
-bare-more : (chart : List ℕ) (base m now next : ℕ) → base ≤ m → now ≡ bareFrom chart base (m - base)
-    → next ≡ cond (isBare (footThere chart m)) (m + 1) now → next ≡ bareFrom chart base (m + 1 - base)
-bare-more chart base m now next l e f =
+bare-more : (chart : List ℕ) (base m found next : ℕ) → base ≤ m → found ≡ bareFrom chart base (m - base)
+    → next ≡ cond (isBare (footThere chart m)) (m + 1) found → next ≡ bareFrom chart base (m + 1 - base)
+bare-more chart base m found next l e f =
     let more : suc (m - base) ≡ m + 1 - base = omega arith in
     let here : m ≡ base + (m - base) = omega arith in
     f ∙ ap₂ (cond (isBare (footThere chart m))) (add-one m) e
@@ -57,19 +57,19 @@ module _ (chart : List ℕ) (base : ℕ) where
       none : 0 ≡ base - base
       none = omega arith
 
-  pub finish-end : {m count now : ℕ} {old new : List ℕ} → m ≤ count → count ≤ m
-      → Finished chart base m old new (record { from = base; to = m; bare = now })
-      → Finished chart base count old new (record { from = base; to = count; bare = now })
-  finish-end {m} {count} {now} {old} {new} a b f =
-      subst (λ k. Finished chart base k old new (record { from = base; to = k; bare = now })) same f
+  pub finish-end : {m count found : ℕ} {old new : List ℕ} → m ≤ count → count ≤ m
+      → Finished chart base m old new (record { from = base; to = m; bare = found })
+      → Finished chart base count old new (record { from = base; to = count; bare = found })
+  finish-end {m} {count} {found} {old} {new} a b f =
+      subst (λ k. Finished chart base k old new (record { from = base; to = k; bare = found })) same f
     where
       same : m ≡ count
       same = omega arith
 
-  module _ {m now next : ℕ} {old mid new : List ℕ} (l : base ≤ m)
-      (f : Finished chart base m old mid (record { from = base; to = m; bare = now }))
+  module _ {m found next : ℕ} {old mid new : List ℕ} (l : base ≤ m)
+      (f : Finished chart base m old mid (record { from = base; to = m; bare = found }))
       (inside : numberThere chart m / 8 < length mid) (e : new ≡ set mid (numberThere chart m / 8) 0)
-      (b : next ≡ cond (isBare (footThere chart m)) (m + 1) now) where
+      (b : next ≡ cond (isBare (footThere chart m)) (m + 1) found) where
     clear : (s : ℕ) → getD mid s 0 ≡ 0 → getD new s 0 ≡ 0
     clear s z = ap (λ t. getD t s 0) e ∙ still-clear mid (numberThere chart m / 8) s z
 
@@ -89,7 +89,7 @@ module _ (chart : List ℕ) (base : ℕ) where
     finish-turn = record {
       sameLength = ap length e ∙ length-set mid (numberThere chart m / 8) 0 ∙ f .sameLength;
       range = ap (λ x. record { from = base; to = m + 1; bare = x })
-          (bare-more chart base m now next l (ap (λ r. r .bare) (f .range)) b);
+          (bare-more chart base m found next l (ap (λ r. r .bare) (f .range)) b);
       cleared = cleared-more;
       shrunk = λ s z. clear s (f .shrunk s z);
       others = others-more;

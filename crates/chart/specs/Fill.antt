@@ -9,7 +9,6 @@ use lib.ListN.{length, take, drop, getD, getElem?, set}
 use Rattle.grammar.specs.Rewriting.{Rule, Lexical, Spine}
 use Rattle.grammar.specs.Items.{Foot}
 use Rattle.grammar.specs.Chart.{Record}
-use Rattle.chart_model.specs.Build.{places}
 use Rattle.records.specs.Bits.{bitOf}
 use Rattle.records.specs.Room.{chartIn, stateOf, FootFits, FeetFit, numberedChart, markOf}
 use Rattle.records.specs.Index.{spans, spanAt, Indexed}
@@ -129,25 +128,13 @@ pub record Between (g : List Rule) (n N room : ℕ) (chart marks index covers se
   pub sorted : Sorted g n (chartIn chart count) sets
   pub covered : Covered n N (chartIn chart count) covers
 
--- Cells were filled: the room holds what the model has, the bytes past it are as they were, and the tables agree again. `Other` names
--- the cells that have kept their records.
-pub record Filled (g : List Rule) (n N room : ℕ) (Other : ℕ → ℕ → ℕ → Type 0) (s : Option (List Record)) (old : List ℕ) (count : ℕ)
-    (new marks index covers sets : List ℕ) (after : ℕ) : Type 0 where
+-- Cells were filled: the room holds what the model has, the bytes past it are as they were, and the tables agree again.
+pub record Filled (g : List Rule) (n N room : ℕ) (s : Option (List Record)) (old new marks index covers sets : List ℕ) (after : ℕ)
+    : Type 0 where
   pub sameRoom : length new ≡ length old
   pub model : stateOf room new after ≡ s
   pub rest : after ≤ room → drop (16 * after) new ≡ drop (16 * after) old
   pub ready : after ≤ room → Between g n N room new marks index covers sets after
-  pub others : after ≤ room → (A i j : ℕ) → Other A i j → places (chartIn new after) A i j ≡ places (chartIn old count) A i j
-
--- Cells other than one, than those of one span, and than those of one end.
-abbrev pub OtherCell : ℕ → ℕ → ℕ → ℕ → ℕ → ℕ → Type 0
-OtherCell A i j A′ i′ j′ = A′ ≡ A → i′ ≡ i → j′ ≡ j → ⊥
-
-abbrev pub OtherSpan : ℕ → ℕ → ℕ → ℕ → ℕ → Type 0
-OtherSpan i j A′ i′ j′ = i′ ≡ i → j′ ≡ j → ⊥
-
-abbrev pub OtherEnd : ℕ → ℕ → ℕ → ℕ → Type 0
-OtherEnd j A′ i′ j′ = j′ ≡ j → ⊥
 
 -- All spans are closed: the room holds the model's chart, its records with the numbers of their feet, and then what was there; or an
 -- item did not fit.

@@ -7,12 +7,12 @@ ghost use mathlib.Core.Path.{_≡_};
 ghost use mathlib.Core.List.{[]};
 ghost use mathlib.Core.Option.{some};
 ghost use Prim.Native.Nat.{ℕ, _+_, _-_, _≤_, _<_};
-ghost use lib.ListN.{length, getD, take};
+ghost use lib.ListN.{length, take};
 ghost use Rattle.grammar.specs.Input.{wordIs};
 ghost use Rattle.chart_model.specs.Build.{places, fillCell, closeSpan, closeEnd, build};
 ghost use Rattle.records.specs.Room.{chartIn};
 ghost use Rattle.chart.specs.Tables.{Splits, CellSet, grammarIn, RulesFit, Rows};
-ghost use Rattle.chart.specs.Fill.{Classified, Between, Filled, OtherCell, OtherSpan, OtherEnd, SpanSet, Closed};
+ghost use Rattle.chart.specs.Fill.{Classified, Between, Filled, SpanSet, Closed};
 
 // One cell: its records, and then its place in the tables. The set has every production that can add to it.
 fn fill_cell(
@@ -33,9 +33,9 @@ fn fill_cell(
     count: usize,
 ) -> usize
     requires { ⌜ Between (grammarIn (now rules) many) (z .words) (z .symbols) (z .room) (now chart) (now marks) (now index) (now covers) (now sets) count × (z .base ≡ count) × RulesFit (z .symbols) (now rules) × Classified (grammarIn (now rules) many) (now by) × (c .left < z .symbols) × (c .from < c .to) × (c .to ≤ z .words) × (many ≤ 64) × (places (chartIn (now chart) count) (c .left) (c .from) (c .to) ≡ []) × CellSet (grammarIn (now rules) many) (wordIs (take (z .words) (now words))) (chartIn (now chart) count) (c .left) (c .from) (c .to - c .from) set × (z .words ≤ length (now words)) × Splits (grammarIn (now rules) many) (chartIn (now chart) count) (c .from) (c .to) (now both) splits ⌝ }
-    ensures { λ r. ⌜ Filled (grammarIn (now (rules .entry)) many) (z .words) (z .symbols) (z .room) (OtherCell (c .left) (c .from) (c .to)) (fillCell (z .room) (grammarIn (now (rules .entry)) many) (wordIs (take (z .words) (now (words .entry)))) (c .to - c .from) (c .from) (c .left) (some (chartIn (now (chart .entry)) count))) (now (chart .entry)) count (now (chart .exit)) (now (marks .exit)) (now (index .exit)) (now (covers .exit)) (now (sets .exit)) r ⌝ }
+    ensures { λ r. ⌜ Filled (grammarIn (now (rules .entry)) many) (z .words) (z .symbols) (z .room) (fillCell (z .room) (grammarIn (now (rules .entry)) many) (wordIs (take (z .words) (now (words .entry)))) (c .to - c .from) (c .from) (c .left) (some (chartIn (now (chart .entry)) count))) (now (chart .entry)) (now (chart .exit)) (now (marks .exit)) (now (index .exit)) (now (covers .exit)) (now (sets .exit)) r ⌝ }
 {
-    let now = crate::cell::fill_items(
+    let total = crate::cell::fill_items(
         chart,
         marks,
         index,
@@ -50,17 +50,17 @@ fn fill_cell(
         set,
         count,
     );
-    if z.room < now {
-        return now;
+    if z.room < total {
+        return total;
     }
-    if now == count {
-        return now;
+    if total == count {
+        return total;
     }
-    let r = crate::cell::finish(chart, marks, z, c, now);
+    let r = crate::cell::finish(chart, marks, z, c, total);
     let at = records::index::cell_at(z.words, z.symbols, wide(c.left), wide(c.from), wide(c.to));
     records::index::put_range(index, at, r);
     crate::sets::note(sets, by, z.words, c, r);
-    now
+    total
 }
 
 // What can add to a span: the word productions for its word, or those with both elements at some split, and these splits.
@@ -109,7 +109,7 @@ fn fill_left(
     count: usize,
 ) -> usize
     requires { ⌜ Between (grammarIn (now rules) many) n symbols room (now chart) (now marks) (now index) (now covers) (now sets) count × RulesFit symbols (now rules) × Classified (grammarIn (now rules) many) (now by) × (a < symbols) × (i < j) × (j ≤ n) × (many ≤ 64) × (places (chartIn (now chart) count) a i j ≡ []) × CellSet (grammarIn (now rules) many) (wordIs (take n (now words))) (chartIn (now chart) count) a i (j - i) set × (n ≤ length (now words)) × Splits (grammarIn (now rules) many) (chartIn (now chart) count) i j (now both) splits ⌝ }
-    ensures { λ r. ⌜ Filled (grammarIn (now (rules .entry)) many) n symbols room (OtherCell a i j) (fillCell room (grammarIn (now (rules .entry)) many) (wordIs (take n (now (words .entry)))) (j - i) i a (some (chartIn (now (chart .entry)) count))) (now (chart .entry)) count (now (chart .exit)) (now (marks .exit)) (now (index .exit)) (now (covers .exit)) (now (sets .exit)) r ⌝ }
+    ensures { λ r. ⌜ Filled (grammarIn (now (rules .entry)) many) n symbols room (fillCell room (grammarIn (now (rules .entry)) many) (wordIs (take n (now (words .entry)))) (j - i) i a (some (chartIn (now (chart .entry)) count))) (now (chart .entry)) (now (chart .exit)) (now (marks .exit)) (now (index .exit)) (now (covers .exit)) (now (sets .exit)) r ⌝ }
 {
     let z = Sizes {
         words: n,
@@ -161,7 +161,7 @@ fn close_span(
     count: usize,
 ) -> usize
     requires { ⌜ Between (grammarIn (now rules) many) n symbols room (now chart) (now marks) (now index) (now covers) (now sets) count × RulesFit symbols (now rules) × Classified (grammarIn (now rules) many) (now by) × (i < j) × (j ≤ n) × (many ≤ 64) × ((A : ℕ) → places (chartIn (now chart) count) A i j ≡ []) × (n ≤ length (now words)) × (length (now both) ≡ 25) ⌝ }
-    ensures { λ r. ⌜ Filled (grammarIn (now (rules .entry)) many) n symbols room (OtherSpan i j) (closeSpan room (grammarIn (now (rules .entry)) many) (wordIs (take n (now (words .entry)))) symbols (j - i) i (some (chartIn (now (chart .entry)) count))) (now (chart .entry)) count (now (chart .exit)) (now (marks .exit)) (now (index .exit)) (now (covers .exit)) (now (sets .exit)) r × (length (now (both .exit)) ≡ 25) ⌝ }
+    ensures { λ r. ⌜ Filled (grammarIn (now (rules .entry)) many) n symbols room (closeSpan room (grammarIn (now (rules .entry)) many) (wordIs (take n (now (words .entry)))) symbols (j - i) i (some (chartIn (now (chart .entry)) count))) (now (chart .entry)) (now (chart .exit)) (now (marks .exit)) (now (index .exit)) (now (covers .exit)) (now (sets .exit)) r × (length (now (both .exit)) ≡ 25) ⌝ }
 {
     let met = span_set(sets, both, by, n, i, j, words);
     let set = met.productions;
@@ -170,10 +170,10 @@ fn close_span(
         return count;
     }
     let mut a = crate::sets::next_left(by, set, 0, symbols);
-    let mut now = count;
+    let mut total = count;
     while a < symbols {
         let own = by[a] & set;
-        now = fill_left(
+        total = fill_left(
             chart,
             marks,
             index,
@@ -192,14 +192,14 @@ fn close_span(
             many,
             words,
             own,
-            now,
+            total,
         );
-        if room < now {
-            return now;
+        if room < total {
+            return total;
         }
         a = crate::sets::next_left(by, set, a + 1, symbols);
     }
-    now
+    total
 }
 
 // The spans that end at e + 1, from the shortest: each rests on those before it, and on earlier ends.
@@ -221,12 +221,12 @@ fn close_end(
     count: usize,
 ) -> usize
     requires { ⌜ Between (grammarIn (now rules) many) n symbols room (now chart) (now marks) (now index) (now covers) (now sets) count × RulesFit symbols (now rules) × Classified (grammarIn (now rules) many) (now by) × (e < n) × (many ≤ 64) × ((A i : ℕ) → places (chartIn (now chart) count) A i (e + 1) ≡ []) × (n ≤ length (now words)) × (length (now both) ≡ 25) ⌝ }
-    ensures { λ r. ⌜ Filled (grammarIn (now (rules .entry)) many) n symbols room (OtherEnd (e + 1)) (closeEnd room (grammarIn (now (rules .entry)) many) (wordIs (take n (now (words .entry)))) symbols e (some (chartIn (now (chart .entry)) count))) (now (chart .entry)) count (now (chart .exit)) (now (marks .exit)) (now (index .exit)) (now (covers .exit)) (now (sets .exit)) r × (length (now (both .exit)) ≡ 25) ⌝ }
+    ensures { λ r. ⌜ Filled (grammarIn (now (rules .entry)) many) n symbols room (closeEnd room (grammarIn (now (rules .entry)) many) (wordIs (take n (now (words .entry)))) symbols e (some (chartIn (now (chart .entry)) count))) (now (chart .entry)) (now (chart .exit)) (now (marks .exit)) (now (index .exit)) (now (covers .exit)) (now (sets .exit)) r × (length (now (both .exit)) ≡ 25) ⌝ }
 {
     let mut m = 0;
-    let mut now = count;
+    let mut total = count;
     while m <= e {
-        now = close_span(
+        total = close_span(
             chart,
             marks,
             index,
@@ -242,14 +242,14 @@ fn close_end(
             rules,
             many,
             words,
-            now,
+            total,
         );
-        if room < now {
-            return now;
+        if room < total {
+            return total;
         }
         m += 1;
     }
-    now
+    total
 }
 
 // All ends, from the left. The tables are lent, and are 0 at the start.
@@ -272,9 +272,9 @@ pub fn close_all(
     ensures { λ r. ⌜ Closed n symbols room (build room (grammarIn (now (rules .entry)) many) (wordIs (take n (now (words .entry)))) symbols n) (now (chart .entry)) (now (chart .exit)) r ⌝ }
 {
     let mut e = 0;
-    let mut now = 0;
+    let mut total = 0;
     while e < n {
-        now = close_end(
+        total = close_end(
             chart,
             marks,
             index,
@@ -289,12 +289,12 @@ pub fn close_all(
             rules,
             many,
             words,
-            now,
+            total,
         );
-        if room < now {
-            return now;
+        if room < total {
+            return total;
         }
         e += 1;
     }
-    now
+    total
 }

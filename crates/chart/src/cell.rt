@@ -5,7 +5,7 @@ use records::index::Range;
 use records::record::Cell;
 use records::record::Foot;
 use records::record::NOWHERE;
-use records::record::Step;
+use records::record::Origin;
 use records::record::wide;
 ghost use mathlib.Core.Path.{_≡_};
 ghost use Prim.Native.Nat.{_+_, _-_, _≤_, _<_};
@@ -39,14 +39,14 @@ fn at_word(
             from: 0,
             to: 0,
         };
-        let step = Step {
+        let origin = Origin {
             production: p as u8,
             side: NOWHERE,
             dependent: NOWHERE,
             continuation: NOWHERE,
         };
         let number = z.symbols * (z.words * (z.words + 1) / 2) * 8;
-        return records::add::add(chart, marks, z, c, f, number, step, count);
+        return records::add::add(chart, marks, z, c, f, number, origin, count);
     }
     count
 }
@@ -100,12 +100,12 @@ fn across_splits(
     let sum = wide(c.from) + wide(c.to);
     let turns = crate::sets::turns_of(both, splits, p, back, sum);
     let mut rest = turns;
-    let mut now = count;
+    let mut total = count;
     while rest != 0 {
         let m = crate::bits::least(rest);
         let k = crate::sets::turned(m, back, sum);
         rest = crate::bits::without(rest, m);
-        now = steps::step::by_production(
+        total = steps::step::by_production(
             chart,
             marks,
             index,
@@ -115,17 +115,17 @@ fn across_splits(
             k as u8,
             p as u8,
             rule,
-            now,
+            total,
         );
-        if z.room < now {
-            return now;
+        if z.room < total {
+            return total;
         }
     }
-    now
+    total
 }
 
 // What production p adds to the cell.
-fn by_rule(
+fn by_rule_over(
     chart: &mut [u8],
     marks: &mut [u8],
     index: &[u16],
@@ -186,11 +186,11 @@ pub fn fill_items(
     ensures { λ r. ⌜ Advanced (z .words) (z .symbols) (z .room) (c .left) (c .from) (c .to) (z .base) (candidates (grammarIn (now (rules .entry)) many) (wordIs (take (z .words) (now (words .entry)))) (chartIn (now (chart .entry)) (z .base)) (c .left) (c .from) (c .to - c .from)) (now (chart .entry)) (now (marks .entry)) count (now (chart .exit)) (now (marks .exit)) (now (covers .exit)) r ⌝ }
 {
     let mut rest = set;
-    let mut now = count;
+    let mut total = count;
     while rest != 0 {
         let p = crate::bits::least(rest);
         rest = crate::bits::without(rest, p);
-        now = by_rule(
+        total = by_rule_over(
             chart,
             marks,
             index,
@@ -203,13 +203,13 @@ pub fn fill_items(
             many,
             words,
             p,
-            now,
+            total,
         );
-        if z.room < now {
-            return now;
+        if z.room < total {
+            return total;
         }
     }
-    now
+    total
 }
 
 // The cell is filled: its marks are taken back, and where its records stand is known.

@@ -27,6 +27,6 @@ pub fn build_chart(card: &[u8], words: &[u8; 24], n: usize, chart: &mut [u8]) ->
         records::room::clear(chart);
         return Built::TooMany;
     }
-    records::room::settle(chart, count);
+    records::room::clear_numbers(chart, count);
     Built::Chart(count)
 }

@@ -5,4 +5,4 @@ pub mod MarkLaws
 pub mod AddLaws
 pub mod CoverLaws
 pub mod ClearLaws
-pub mod SettleLaws
+pub mod NumbersCleared

@@ -47,8 +47,8 @@ pub record Advanced (n N room A i j base : ℕ) (rs : List Record) (old oldMarks
   pub added : Added n N room A i j rs old oldMarks count new newMarks after
   pub covering : after ≤ room → Covering n N A i j (chartIn old base) (chartIn new after) covers
 
--- A cell by its number and by the stretch of its records in b.
-pub record Stretch (n N : ℕ) (b : List Record) (at from to : ℕ) : Type 0 where
+-- A cell by its number and by the range of its records in b.
+pub record CellRange (n N : ℕ) (b : List Record) (at from to : ℕ) : Type 0 where
   pub symbol : ℕ
   pub start : ℕ
   pub end : ℕ

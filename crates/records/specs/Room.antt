@@ -15,7 +15,7 @@ pub use Rattle.layout.specs.Records.{recordBytes, chartBytes, footOf, footThere
 use Rattle.chart_model.specs.Build.{footAt, addEach}
 use Rattle.records.specs.declared.record.Cell.{Cell}
 use Rattle.records.specs.declared.record.Foot as declared
-use Rattle.records.specs.declared.record.Step.{Step}
+use Rattle.records.specs.declared.record.Origin.{Origin}
 use Rattle.records.specs.Bits.{holdsBit}
 use Rattle.records.specs.Index.{spans, cellAt}
 
@@ -27,9 +27,9 @@ stateOf room bytes count = cond (leb count room) (some (chartIn bytes count)) no
 abbrev pub footFrom : declared.Foot → Foot
 footFrom f = footOf (f .index) (f .symbol) (f .from) (f .to)
 
-abbrev pub recordFrom : Cell → declared.Foot → Step → Record
-recordFrom c f s =
-    recorded (item (c .left) (c .from) (c .to) (footFrom f)) (s .production) (s .side) (s .dependent) (s .continuation)
+abbrev pub recordFrom : Cell → declared.Foot → Origin → Record
+recordFrom c f o =
+    recorded (item (c .left) (c .from) (c .to) (footFrom f)) (o .production) (o .side) (o .dependent) (o .continuation)
 
 -- The four bytes of a foot as they stand in the record at position m.
 abbrev pub footFields : List ℕ → ℕ → declared.Foot
@@ -68,9 +68,9 @@ abbrev pub numberThere : List ℕ → ℕ → ℕ
 numberThere bytes m = wordAt bytes (16 * m + 14)
 
 -- The bytes with zeros in place of the numbers of the first so many records.
-abbrev pub settled : ℕ → List ℕ → List ℕ
-settled zero bytes = bytes
-settled (suc m) bytes = set (set (settled m bytes) (16 * m + 14) 0) (16 * m + 15) 0
+abbrev pub numbersCleared : ℕ → List ℕ → List ℕ
+numbersCleared zero bytes = bytes
+numbersCleared (suc m) bytes = set (set (numbersCleared m bytes) (16 * m + 14) 0) (16 * m + 15) 0
 
 -- A mark is a bit for each number, eight to a byte.
 abbrev pub markAt : List ℕ → ℕ → Bool

@@ -1,7 +1,7 @@
 // One item, if it is new.
 use crate::record::Cell;
 use crate::record::Foot;
-use crate::record::Step;
+use crate::record::Origin;
 ghost use mathlib.Core.Path.{_≡_};
 ghost use mathlib.Core.List.{[], _∷_};
 ghost use Rattle.records.specs.Room.{footFrom, recordFrom, FootFits, Writable, footNumber, Working, Added};
@@ -22,11 +22,11 @@ pub fn add(
     c: Cell,
     f: Foot,
     number: usize,
-    s: Step,
+    o: Origin,
     count: usize,
 ) -> usize
     requires { ⌜ Working (z .words) (z .symbols) (z .room) (c .left) (c .from) (c .to) (now chart) (now marks) count × FootFits (z .words) (z .symbols) (footFrom f) × Writable f × (number ≡ footNumber (z .words) (z .symbols) (footFrom f)) ⌝ }
-    ensures { λ r. ⌜ Added (z .words) (z .symbols) (z .room) (c .left) (c .from) (c .to) (recordFrom c f s ∷ []) (now (chart .entry)) (now (marks .entry)) count (now (chart .exit)) (now (marks .exit)) r ⌝ }
+    ensures { λ r. ⌜ Added (z .words) (z .symbols) (z .room) (c .left) (c .from) (c .to) (recordFrom c f o ∷ []) (now (chart .entry)) (now (marks .entry)) count (now (chart .exit)) (now (marks .exit)) r ⌝ }
 {
     if crate::marks::seen(marks, number) {
         return count;
@@ -35,6 +35,6 @@ pub fn add(
         return z.room + 1;
     }
     crate::marks::mark(marks, number);
-    crate::record::put_record(chart, count, c, f, number as u16, s);
+    crate::record::put_record(chart, count, c, f, number as u16, o);
     count + 1
 }

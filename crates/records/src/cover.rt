@@ -15,7 +15,7 @@ pub fn note(covers: &mut [u16], own: usize, at: usize)
 
 // Does the cell `own` cover the one at a place, by itself or by a cell that it covers? Where it is by another, the place is noted anew,
 // so that the next look is a short one.
-pub fn passes(covers: &mut [u16], own: usize, at: usize) -> bool
+pub fn is_covered(covers: &mut [u16], own: usize, at: usize) -> bool
     requires { ⌜ (own < 65535) × (at < length (now covers)) × (getD (now covers) at 0 ≤ length (now covers)) ⌝ }
     ensures { λ r. ⌜ (r ≡ coveredIn (now (covers .entry)) own at) × (now (covers .exit) ≡ notedAnew (now (covers .entry)) own at) ⌝ }
 {

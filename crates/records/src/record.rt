@@ -22,7 +22,7 @@ pub struct Foot {
 }
 
 // How an item was derived: its production and the positions of its antecedents, 65535 for none.
-pub struct Step {
+pub struct Origin {
     pub production: u8,
     pub side: u16,
     pub dependent: u16,
@@ -84,9 +84,9 @@ fn put_all(room: &mut [u8], at: usize, src: &[u8; 16])
     }
 }
 
-pub fn put_record(chart: &mut [u8], m: usize, c: Cell, f: Foot, number: u16, s: Step)
+pub fn put_record(chart: &mut [u8], m: usize, c: Cell, f: Foot, number: u16, o: Origin)
     requires { ⌜ (16 * m + 16 ≤ length (now chart)) × Writable f ⌝ }
-    ensures { λ r. ⌜ now (chart .exit) ≡ take (16 * m) (now (chart .entry)) ++ (withNumber number (recordFrom c f s) ++ drop (16 * m + 16) (now (chart .entry))) ⌝ }
+    ensures { λ r. ⌜ now (chart .exit) ≡ take (16 * m) (now (chart .entry)) ++ (withNumber number (recordFrom c f o) ++ drop (16 * m + 16) (now (chart .entry))) ⌝ }
 {
     let bytes = [
         c.left,
@@ -96,13 +96,13 @@ pub fn put_record(chart: &mut [u8], m: usize, c: Cell, f: Foot, number: u16, s: 
         f.symbol,
         f.from,
         f.to,
-        s.production,
-        low(s.side),
-        high(s.side),
-        low(s.dependent),
-        high(s.dependent),
-        low(s.continuation),
-        high(s.continuation),
+        o.production,
+        low(o.side),
+        high(o.side),
+        low(o.dependent),
+        high(o.dependent),
+        low(o.continuation),
+        high(o.continuation),
         low(number),
         high(number),
     ];

@@ -3,7 +3,7 @@ ghost use mathlib.Core.Path.{_≡_};
 ghost use Prim.Native.Nat.{_*_, _≤_};
 ghost use lib.ListN.{length, replicate};
 ghost use Rattle.layout.specs.Records.{capacity as itemsIn};
-ghost use Rattle.records.specs.Room.{settled};
+ghost use Rattle.records.specs.Room.{numbersCleared};
 
 // The items that a room of so many bytes holds.
 pub fn capacity(bytes: usize) -> usize
@@ -28,9 +28,9 @@ pub fn clear(room: &mut [u8])
 }
 
 // The two last bytes of the first records are 0.
-pub fn settle(chart: &mut [u8], count: usize)
+pub fn clear_numbers(chart: &mut [u8], count: usize)
     requires { ⌜ 16 * count ≤ length (now chart) ⌝ }
-    ensures { λ r. ⌜ now (chart .exit) ≡ settled count (now (chart .entry)) ⌝ }
+    ensures { λ r. ⌜ now (chart .exit) ≡ numbersCleared count (now (chart .entry)) ⌝ }
 {
     let mut m = 0;
     while m < count {

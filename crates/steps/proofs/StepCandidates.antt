@@ -1,34 +1,33 @@
--- The candidates of one production over one split, as the steps find them: the table gives the records of a cell as a stretch of
+-- The candidates of one production over one split, as the steps find them: the table gives the records of a cell as a range of
 -- positions, so what the model makes from a list of positions is made place by place.
 use Prim.Native.Nat.{ℕ, suc, _+_, _*_, _-_, _/_, _≤_, _<_}
 use native.Mathlib.Omega.{arith}
 use mathlib.Core.Path.{_≡_, refl, sym, _∙_, ap, subst}
-use mathlib.Core.Bool.{Bool, true, false, cond, not, false≢true}
+use mathlib.Core.Bool.{Bool, true, false, cond}
 use mathlib.Core.List.{List, [], _∷_, append-nil}
 use lib.Dec.{eqb}
 use borrow.Author.Tests.{eq-eqb, ne-eqb}
-use Rattle.grammar.specs.Lists.{concatMap, only}
-use Rattle.grammar.specs.Rewriting.{Rule, Lexical, Spine}
+use Rattle.grammar.specs.Lists.{concatMap}
 use Rattle.grammar.specs.Items.{Foot, bare, foot}
 use Rattle.grammar.specs.ItemList.{item}
 use Rattle.grammar.specs.Chart.{Record, recorded, nowhere}
 use Rattle.layout.specs.Bytes.{counted}
 use Rattle.card.specs.declared.Action.{Action}
-use Rattle.card.specs.declared.Action.the-variants as card
-use Rattle.card.specs.Productions.{actionFrom}
+use Rattle.card.specs.declared.Action.the-variants.{Take, Keep, Give}
+use Rattle.card.specs.declared.Production.{Production}
+use Rattle.card.specs.declared.Production.the-variants.{Word, SideFirst, SideLast}
+use Rattle.card.specs.Productions.{actionFrom, ruleFrom}
 use Rattle.chart_model.specs.Build.{flatUp, places, barePlaces, footAt, takenFrom, keptFrom, continued, givenFoot, givenFrom, byAction, byRule}
 use Rattle.records.specs.declared.record.Cell.{Cell}
 use Rattle.records.specs.declared.record.Foot as declared
 use Rattle.records.specs.declared.index.Range.{Range}
 use Rattle.records.specs.Room.{footOf, footThere, footFields, chartIn, FootFits, Writable, footNumber, numberThere, Working, Added}
 use Rattle.records.specs.Index.{cellAt, rangeIn, bareIn, SpanFits, Indexed}
-use Rattle.records.specs.Cover.{Stretch}
+use Rattle.records.specs.Cover.{CellRange}
 use Rattle.records.proofs.RoomLaws.{chart-length, foot-at, number-there}
 use Rattle.records.proofs.TableLaws.{number-cell}
-use Rattle.steps.specs.declared.parts.Parts.{Parts}
-use Rattle.steps.specs.declared.parts.Element.{Element}
+use Rattle.steps.specs.declared.element.Element.{Element}
 use Rattle.steps.specs.Fits.{ActionFits, RuleFits}
-use Rattle.steps.specs.Parts.{isPair, pairFrom, elementAt}
 use Rattle.steps.proofs.StepLaws.{concatMap-counted, added-none, added-as, foot-fits}
 
 -- A take has one record, from the first place, if there is a place.
@@ -67,8 +66,8 @@ module _ {n N : ℕ} (chart : List ℕ) (base : ℕ) {index : List ℕ} (t : Ind
       subst (λ (R : Range). places (chartIn chart base) B p q ≡ counted (R .from) (R .to - R .from)) (sym read-range)
       (t .ranges B p q (s .0) (s .1) (s .2))
 
-  abbrev pub range-stretch : Stretch n N (chartIn chart base) at (R .from) (R .to)
-  range-stretch = record { symbol = B; start = p; end = q; fits = s; number = read-at; stands = range-places }
+  abbrev pub cell-range : CellRange n N (chartIn chart base) at (R .from) (R .to)
+  cell-range = record { symbol = B; start = p; end = q; fits = s; number = read-at; stands = range-places }
 
   pub range-bares : barePlaces (chartIn chart base) B p q ≡ bareIn (R .bare)
   range-bares =
@@ -150,27 +149,27 @@ module _ {n N room A i j : ℕ} {chart marks : List ℕ} {count : ℕ} (w : Work
         b : List Record
         b = chartIn chart base
 
--- A list of positions that is a stretch.
-stretched : (f : ℕ → List Record) {l : List ℕ} (from m : ℕ) → l ≡ counted from m → flatUp f from m ≡ concatMap f l
-stretched f from m t = sym (ap (concatMap f) t ∙ concatMap-counted f from m)
+-- A list of positions that is a range.
+ranged : (f : ℕ → List Record) {l : List ℕ} (from m : ℕ) → l ≡ counted from m → flatUp f from m ≡ concatMap f l
+ranged f from m t = sym (ap (concatMap f) t ∙ concatMap-counted f from m)
 
--- The three actions, from the stretch of the dependent's records.
+-- The three actions, from the range of the dependent's records.
 module _ (b : List Record) (D k m A i j p x : ℕ) where
   same-action : {a a′ : Action} → a ≡ a′ → byAction b (actionFrom a′) D k m A i j p x ≡ byAction b (actionFrom a) D k m A i j p x
   same-action e = ap (λ (a : Action). byAction b (actionFrom a) D k m A i j p x) (sym e)
 
   module _ (R : Range) (t : places b D k m ≡ counted (R .from) (R .to - R .from)) where
-    pub by-take : {a : Action} {g : ℕ} → a ≡ card.Take g → 1 ≤ g
+    pub by-take : {a : Action} {g : ℕ} → a ≡ Take g → 1 ≤ g
         → takenFrom A i j p x (footOf g D k m) (counted (R .from) (R .to - R .from)) ≡ byAction b (actionFrom a) D k m A i j p x
     by-take {g = g} e h = rw (ne-eqb g 0 (λ z. absurd (omega arith))) (sym (ap (takenFrom A i j p x (foot g D k m)) t) ∙ same-action e)
 
-    pub by-keep : {a : Action} → a ≡ card.Keep
+    pub by-keep : {a : Action} → a ≡ Keep
         → flatUp (keptFrom b A i j p x) (R .from) (R .to - R .from) ≡ byAction b (actionFrom a) D k m A i j p x
-    by-keep e = stretched (keptFrom b A i j p x) (R .from) (R .to - R .from) t ∙ same-action e
+    by-keep e = ranged (keptFrom b A i j p x) (R .from) (R .to - R .from) t ∙ same-action e
 
-    pub by-give : {a : Action} {g : ℕ} → a ≡ card.Give g
+    pub by-give : {a : Action} {g : ℕ} → a ≡ Give g
         → flatUp (givenFrom b A i j p x g) (R .from) (R .to - R .from) ≡ byAction b (actionFrom a) D k m A i j p x
-    by-give {g = g} e = stretched (givenFrom b A i j p x g) (R .from) (R .to - R .from) t ∙ same-action e
+    by-give {g = g} e = ranged (givenFrom b A i j p x g) (R .from) (R .to - R .from) t ∙ same-action e
 
 -- The side's bare item, if there is one.
 module _ (f : ℕ → List Record) {l : List ℕ} (m : ℕ) (t : l ≡ bareIn m) where
@@ -182,46 +181,42 @@ module _ (f : ℕ → List Record) {l : List ℕ} (m : ℕ) (t : l ≡ bareIn m)
       let e : m ≡ suc (m - 1) = omega arith in
       ap (concatMap f) (t ∙ ap bareIn e) ∙ append-nil (f (m - 1))
 
--- A production by its parts: no record from a word or under another left side, and else those of its side and its action.
-module _ (b : List Record) (A i k j p : ℕ) where
-  pub by-word : (rule : Rule) → isPair rule ≡ false → byRule b A i k j p rule ≡ []
-  by-word (Lexical left word) e = refl
-  by-word (Spine left a before D after) e = absurd (false≢true (sym e))
-
-  pub pair-other : (P : Parts) → (P .left ≡ A → ⊥) → byRule b A i k j p (pairFrom P) ≡ []
-  pair-other P d = go (P .leads)
-    where
-      go : (v : Bool) → byRule b A i k j p (Spine (P .left) (actionFrom (P .action)) (only v (P .side)) (P .dependent) (only (not v) (P .side)))
-          ≡ []
-      go true = rw (ne-eqb (P .left) A d, byRule)
-      go false = rw (ne-eqb (P .left) A d, byRule)
+-- A production by its shape: no record from a word or under another left side, and else those of its side x and its dependent y, of which
+-- one stands before k and one after it. Where the production fits, its action and its nonterminals do.
+abbrev Over : Element → ℕ → ℕ → ℕ → Type 0
+Over x symbol from to = (x .symbol ≡ symbol) × (x .from ≡ from) × (x .to ≡ to)
 
 module _ (b : List Record) (c : Cell) (k p : ℕ) where
-  pub pair-same : (P : Parts) {side d : Element} → P .left ≡ c .left → side ≡ elementAt c k (P .side) (P .leads)
-      → d ≡ elementAt c k (P .dependent) (not (P .leads))
-      → byRule b (c .left) (c .from) k (c .to) p (pairFrom P)
-      ≡ concatMap (byAction b (actionFrom (P .action)) (d .symbol) (d .from) (d .to) (c .left) (c .from) (c .to) p)
-      (barePlaces b (side .symbol) (side .from) (side .to))
-  pair-same P e s d = rw (s, d) (go (P .leads))
-    where
-      go : (v : Bool)
-          → byRule b (c .left) (c .from) k (c .to) p
-          (Spine (P .left) (actionFrom (P .action)) (only v (P .side)) (P .dependent) (only (not v) (P .side)))
-          ≡ concatMap (byAction b (actionFrom (P .action)) (P .dependent) (cond (not v) (c .from) k) (cond (not v) k (c .to)) (c .left)
-          (c .from) (c .to) p) (barePlaces b (P .side) (cond v (c .from) k) (cond v k (c .to)))
-      go true = rw (eq-eqb (P .left) (c .left) e, byRule)
-      go false = rw (eq-eqb (P .left) (c .left) e, byRule)
+  abbrev made : Production → List Record
+  made rule = byRule b (c .left) (c .from) k (c .to) p (ruleFrom rule)
 
--- The parts of a rule that fits do, and so do the two elements around k.
-pub pair-fits : (N : ℕ) (P : Parts) → RuleFits N (pairFrom P) → ActionFits (actionFrom (P .action)) × (P .side < N) × (P .dependent < N)
-pair-fits N P = go (P .leads)
-  where
-    go : (v : Bool) → RuleFits N (Spine (P .left) (actionFrom (P .action)) (only v (P .side)) (P .dependent) (only (not v) (P .side)))
-        → ActionFits (actionFrom (P .action)) × (P .side < N) × (P .dependent < N)
-    go true (l, a, s, d, n) = (a, s .0, d)
-    go false (l, a, n, d, s) = (a, s .0, d)
+  abbrev paired : Action → Element → Element → List Record
+  paired a x y =
+      concatMap (byAction b (actionFrom a) (y .symbol) (y .from) (y .to) (c .left) (c .from) (c .to) p)
+      (barePlaces b (x .symbol) (x .from) (x .to))
 
-pub element-fits : (n N : ℕ) (c : Cell) (k symbol : ℕ) (first : Bool) {x : Element} → x ≡ elementAt c k symbol first → symbol < N
-    → c .from < k → k < c .to → c .to ≤ n → SpanFits n N (x .symbol) (x .from) (x .to)
-element-fits n N c k symbol true e a l u v = rw e (a, l, omega arith)
-element-fits n N c k symbol false e a l u v = rw e (a, u, v)
+  pub by-word : {rule : Production} {left word : ℕ} → rule ≡ Word left word → [] ≡ made rule
+  by-word e = ap made (sym e)
+
+  module _ {rule : Production} {left side D : ℕ} {a : Action} where
+    pub first-other : rule ≡ SideFirst left a side D → (left ≡ c .left → ⊥) → [] ≡ made rule
+    first-other e d = rw (e, ne-eqb left (c .left) d, byRule)
+
+    pub last-other : rule ≡ SideLast left a D side → (left ≡ c .left → ⊥) → [] ≡ made rule
+    last-other e d = rw (e, ne-eqb left (c .left) d, byRule)
+
+    module _ {x y : Element} where
+      pub first-same : rule ≡ SideFirst left a side D → left ≡ c .left → Over x side (c .from) k → Over y D k (c .to)
+          → paired a x y ≡ made rule
+      first-same e d (s, t, u) (v, w, z) = rw (e, eq-eqb left (c .left) d, byRule, s, t, u, v, w, z)
+
+      pub last-same : rule ≡ SideLast left a D side → left ≡ c .left → Over y D (c .from) k → Over x side k (c .to)
+          → paired a x y ≡ made rule
+      last-same e d (v, w, z) (s, t, u) = rw (e, eq-eqb left (c .left) d, byRule, s, t, u, v, w, z)
+
+module _ (N : ℕ) (rule : Production) (fits : RuleFits N (ruleFrom rule)) {left side D : ℕ} {a : Action} where
+  pub first-fits : rule ≡ SideFirst left a side D → ActionFits (actionFrom a) × (side < N) × (D < N)
+  first-fits e = let (_, f, s, d, _) = subst (λ (r : Production). RuleFits N (ruleFrom r)) e fits in (f, s .0, d)
+
+  pub last-fits : rule ≡ SideLast left a D side → ActionFits (actionFrom a) × (side < N) × (D < N)
+  last-fits e = let (_, f, _, d, s) = subst (λ (r : Production). RuleFits N (ruleFrom r)) e fits in (f, s .0, d)

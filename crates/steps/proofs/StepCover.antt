@@ -21,7 +21,7 @@ use Rattle.chart_model.proofs.Candidates.{places-in}
 use Rattle.chart_model.proofs.FillModel.{in-counted}
 use Rattle.records.specs.Room.{chartIn, Working, Added}
 use Rattle.records.specs.Index.{spans, cellAt, SpanFits}
-use Rattle.records.specs.Cover.{CoversIn, Covering, Stretch, Advanced, coveredIn, notedAnew}
+use Rattle.records.specs.Cover.{CoversIn, Covering, CellRange, Advanced, coveredIn, notedAnew}
 use Rattle.records.proofs.TableLaws.{cell-below, spans-more}
 use Rattle.records.proofs.AddLaws.{state-fits}
 use Rattle.records.proofs.CoverLaws.{chart-wider, each-wider, each-in, each-known, place-has, covering-wider, covering-below, covered-sound, covering-note, covering-anew}
@@ -34,7 +34,7 @@ counted-in k (suc m) x a b = elim (ℕ-discrete x k) [
   | no d ↦ List·Memᴰ·tail (counted-in (suc k) m x (omega arith) (omega arith))
 ]
 
--- Records made place by place, each with the foot that stands at its place, over the stretch of one cell's records.
+-- Records made place by place, each with the foot that stands at its place, over the range of one cell's records.
 module _ (b : List Record) (A i j : ℕ) (f : ℕ → List Record) (one : (x : ℕ) → map itemOf (f x) ≡ item A i j (footAt b x) ∷ [])
     (D k m from len : ℕ) (t : places b D k m ≡ counted from len) where
   all-known : (c : List Record) → CoversIn b c A i j D k m → (r : Record) → List·Memᴰ r (flatUp f from len) → Has c (itemOf r)
@@ -88,7 +88,7 @@ module _ {n N room A i j : ℕ} where
       }
 
   module _ {base : ℕ} {chart marks covers : List ℕ} {count : ℕ} (w : Working n N room A i j chart marks count) (v : base ≤ count)
-      {at from to : ℕ} (d : Stretch n N (chartIn chart base) at from to)
+      {at from to : ℕ} (d : CellRange n N (chartIn chart base) at from to)
       (t : Covering n N A i j (chartIn chart base) (chartIn chart count) covers) (fits : SpanFits n N A i j) where
     -- The places in the table, and the numbers that they have.
     pub note-fits : {own : ℕ} → own < spans n * N → (own < 65535) × (at < length covers)
@@ -97,8 +97,8 @@ module _ {n N room A i j : ℕ} where
       omega (arith, t .long, d .number, cell-below n N (d .symbol) (d .start) (d .end) (d .fits .0) (d .fits .1) (d .fits .2)),
     )
 
-    pub passes-fits : {own : ℕ} → own < spans n * N → (own < 65535) × (at < length covers) × (getD covers at 0 ≤ length covers)
-    passes-fits h =
+    pub look-fits : {own : ℕ} → own < spans n * N → (own < 65535) × (at < length covers) × (getD covers at 0 ≤ length covers)
+    look-fits h =
         let (u, v) = note-fits h in
         (u, v, subst (λ (x : ℕ). getD covers x 0 ≤ length covers) (sym (d .number)) (covering-below t fits (d .fits)))
 
@@ -152,9 +152,9 @@ module _ {n N room A i j : ℕ} where
 
 -- A loop whose calls pass cells over: as one whose calls add, and the table is right at each turn.
 pub record Advancing (n N room A i j base : ℕ) (F : List Record → ℕ → List Record) (from to : ℕ) (old oldMarks oldCovers : List ℕ)
-    (count : ℕ) (new newMarks covers : List ℕ) (y now : ℕ) : Type 0 where
-  pub looped : Looped n N room A i j (F (chartIn old base)) from to old oldMarks count new newMarks y now
-  pub covering : Covering n N A i j (chartIn old base) (chartIn new now) covers
+    (count : ℕ) (new newMarks covers : List ℕ) (y total : ℕ) : Type 0 where
+  pub looped : Looped n N room A i j (F (chartIn old base)) from to old oldMarks count new newMarks y total
+  pub covering : Covering n N A i j (chartIn old base) (chartIn new total) covers
   pub sameCovers : length covers ≡ length oldCovers
 
 module _ {n N room A i j base : ℕ} {F : List Record → ℕ → List Record} {from to : ℕ} where
@@ -163,18 +163,18 @@ module _ {n N room A i j base : ℕ} {F : List Record → ℕ → List Record} {
       → Advancing n N room A i j base F from to chart marks covers count chart marks covers from count
   advance-start w t = record { looped = loop-start w; covering = t; sameCovers = refl }
 
-  module _ {old oldMarks oldCovers mid midMarks covers : List ℕ} {count y now : ℕ}
-      (l : Advancing n N room A i j base F from to old oldMarks oldCovers count mid midMarks covers y now) where
+  module _ {old oldMarks oldCovers mid midMarks covers : List ℕ} {count y total : ℕ}
+      (l : Advancing n N room A i j base F from to old oldMarks oldCovers count mid midMarks covers y total) where
     -- The loop ends at `to`, or where the places that are left have no candidates; and such a place may be left out.
-    pub advance-end : to ≤ y → Advanced n N room A i j base (flatUp (F (chartIn old base)) from (to - from)) old oldMarks count mid midMarks covers now
+    pub advance-end : to ≤ y → Advanced n N room A i j base (flatUp (F (chartIn old base)) from (to - from)) old oldMarks count mid midMarks covers total
     advance-end h = record { added = loop-end (l .looped) h; covering = λ _. l .covering }
 
     pub advance-rest : ((k : ℕ) → y ≤ k → k < to → F (chartIn old base) k ≡ [])
-        → Advanced n N room A i j base (flatUp (F (chartIn old base)) from (to - from)) old oldMarks count mid midMarks covers now
+        → Advanced n N room A i j base (flatUp (F (chartIn old base)) from (to - from)) old oldMarks count mid midMarks covers total
     advance-rest empty = record { added = loop-rest (l .looped) empty; covering = λ _. l .covering }
 
     pub advance-skip : y < to → F (chartIn old base) y ≡ []
-        → Advancing n N room A i j base F from to old oldMarks oldCovers count mid midMarks covers (y + 1) now
+        → Advancing n N room A i j base F from to old oldMarks oldCovers count mid midMarks covers (y + 1) total
     advance-skip h e = record { looped = loop-skip (l .looped) h e; covering = l .covering; sameCovers = l .sameCovers }
 
     module _ (v : base ≤ count) where
@@ -182,12 +182,12 @@ module _ {n N room A i j base : ℕ} {F : List Record → ℕ → List Record} {
       same-base = loop-kept (l .looped) base v
 
       -- What a call asks, and a turn: a call that adds the candidates of y.
-      pub advance-asks : Covering n N A i j (chartIn mid base) (chartIn mid now) covers
-      advance-asks = subst (λ (b : List Record). Covering n N A i j b (chartIn mid now) covers) (sym same-base) (l .covering)
+      pub advance-asks : Covering n N A i j (chartIn mid base) (chartIn mid total) covers
+      advance-asks = subst (λ (b : List Record). Covering n N A i j b (chartIn mid total) covers) (sym same-base) (l .covering)
 
       module _ {new newMarks newCovers : List ℕ} {after : ℕ} (h : y < to)
-          (a : Advanced n N room A i j base (F (chartIn mid base) y) mid midMarks now new newMarks newCovers after) where
-        one-added : Added n N room A i j (F (chartIn old base) y) mid midMarks now new newMarks after
+          (a : Advanced n N room A i j base (F (chartIn mid base) y) mid midMarks total new newMarks newCovers after) where
+        one-added : Added n N room A i j (F (chartIn old base) y) mid midMarks total new newMarks after
         one-added = loop-same (l .looped) (λ (b : List Record). F b y) base v (a .added)
 
         pub advance-turn : after ≤ room → length newCovers ≡ length covers

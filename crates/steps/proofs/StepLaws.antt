@@ -69,20 +69,20 @@ module _ {n N room A i j : ℕ} where
       subst (λ (l : List Record). Added n N room A i j l old oldMarks count new newMarks after) e a
 
   -- One call after another.
-  pub added-then : {rs ss : List Record} {old oldMarks mid midMarks new newMarks : List ℕ} {count now after : ℕ}
-      → Added n N room A i j rs old oldMarks count mid midMarks now → now ≤ room
-      → Added n N room A i j ss mid midMarks now new newMarks after
+  pub added-then : {rs ss : List Record} {old oldMarks mid midMarks new newMarks : List ℕ} {count total after : ℕ}
+      → Added n N room A i j rs old oldMarks count mid midMarks total → total ≤ room
+      → Added n N room A i j ss mid midMarks total new newMarks after
       → Added n N room A i j (rs ++ ss) old oldMarks count new newMarks after
-  added-then {rs} {ss} {old} {mid = mid} {new = new} {count = count} {now} {after} a h b =
+  added-then {rs} {ss} {old} {mid = mid} {new = new} {count = count} {total} {after} a h b =
       record {
         sameRoom = b .sameRoom ∙ a .sameRoom;
         sameMarks = b .sameMarks ∙ a .sameMarks;
         grown = omega arith;
-        kept = take-less (16 * count) (16 * now) new mid (omega arith) (b .kept) ∙ a .kept;
+        kept = take-less (16 * count) (16 * total) new mid (omega arith) (b .kept) ∙ a .kept;
         model = b .model
-            ∙ (ap (addEach room ss) (sym (state-fits room mid now h) ∙ a .model)
+            ∙ (ap (addEach room ss) (sym (state-fits room mid total h) ∙ a .model)
             ∙ sym (addEach-append room rs ss (some (chartIn old count))));
-        rest = λ l. b .rest l ∙ drop-less (16 * now) (16 * after) mid old (omega arith) (a .rest h);
+        rest = λ l. b .rest l ∙ drop-less (16 * total) (16 * after) mid old (omega arith) (a .rest h);
         works = b .works;
       }
 
@@ -112,11 +112,11 @@ module _ {n N room A i j : ℕ} where
 
 -- A loop over the places from `from` to below `to` is at y, and has added the candidates f of the places passed.
 pub record Looped (n N room A i j : ℕ) (f : ℕ → List Record) (from to : ℕ) (old oldMarks : List ℕ) (count : ℕ) (new newMarks : List ℕ)
-    (y now : ℕ) : Type 0 where
+    (y total : ℕ) : Type 0 where
   pub begun : from ≤ y
   pub within : y - from ≤ to - from
-  pub fits : now ≤ room
-  pub sofar : Added n N room A i j (flatUp f from (y - from)) old oldMarks count new newMarks now
+  pub fits : total ≤ room
+  pub sofar : Added n N room A i j (flatUp f from (y - from)) old oldMarks count new newMarks total
 
 module _ {n N room A i j : ℕ} {f : ℕ → List Record} {from to : ℕ} where
   pub loop-start : {chart marks : List ℕ} {count : ℕ} → Working n N room A i j chart marks count
@@ -132,13 +132,13 @@ module _ {n N room A i j : ℕ} {f : ℕ → List Record} {from to : ℕ} where
       none-passed : 0 ≡ from - from
       none-passed = omega arith
 
-  module _ {old oldMarks mid midMarks : List ℕ} {count y now : ℕ}
-      (l : Looped n N room A i j f from to old oldMarks count mid midMarks y now) where
+  module _ {old oldMarks mid midMarks : List ℕ} {count y total : ℕ}
+      (l : Looped n N room A i j f from to old oldMarks count mid midMarks y total) where
     -- The room and the marks at the place y, which stands below the count if `to` is at most the base.
-    pub loop-works : Working n N room A i j mid midMarks now
+    pub loop-works : Working n N room A i j mid midMarks total
     loop-works = l .sofar .works (l .fits)
 
-    pub loop-below : {base : ℕ} → y < to → to ≤ base → base ≤ count → y < now
+    pub loop-below : {base : ℕ} → y < to → to ≤ base → base ≤ count → y < total
     loop-below h u v = omega (arith, l .sofar .grown)
 
     -- The records at the begin are as they were, and so what is made from them.
@@ -146,12 +146,12 @@ module _ {n N room A i j : ℕ} {f : ℕ → List Record} {from to : ℕ} where
     loop-kept base v = chart-kept base v (l .sofar)
 
     pub loop-same : {new newMarks : List ℕ} {after : ℕ} (F : List Record → List Record) (base : ℕ) → base ≤ count
-        → Added n N room A i j (F (chartIn mid base)) mid midMarks now new newMarks after
-        → Added n N room A i j (F (chartIn old base)) mid midMarks now new newMarks after
+        → Added n N room A i j (F (chartIn mid base)) mid midMarks total new newMarks after
+        → Added n N room A i j (F (chartIn old base)) mid midMarks total new newMarks after
     loop-same F base v a = added-as (ap F (loop-kept base v)) a
 
     -- The loop ends at `to`, or did not begin.
-    pub loop-end : to ≤ y → Added n N room A i j (flatUp f from (to - from)) old oldMarks count mid midMarks now
+    pub loop-end : to ≤ y → Added n N room A i j (flatUp f from (to - from)) old oldMarks count mid midMarks total
     loop-end h = added-as (ap (flatUp f from) all-passed) (l .sofar)
       where
         all-passed : y - from ≡ to - from
@@ -159,7 +159,7 @@ module _ {n N room A i j : ℕ} {f : ℕ → List Record} {from to : ℕ} where
 
     -- So it does where the places that are left have no candidates.
     pub loop-rest : ((k : ℕ) → y ≤ k → k < to → f k ≡ [])
-        → Added n N room A i j (flatUp f from (to - from)) old oldMarks count mid midMarks now
+        → Added n N room A i j (flatUp f from (to - from)) old oldMarks count mid midMarks total
     loop-rest empty =
         added-as (sym (append-nil (flatUp f from (y - from))) ∙ (ap (λ (t : List Record). flatUp f from (y - from) ++ t)
         (sym (flatUp-none f (from + (y - from)) left λ k a b. empty k (omega arith) (omega arith)))
@@ -171,7 +171,7 @@ module _ {n N room A i j : ℕ} {f : ℕ → List Record} {from to : ℕ} where
         all : y - from + left ≡ to - from
         all = omega arith
 
-    module _ {new newMarks : List ℕ} {after : ℕ} (h : y < to) (b : Added n N room A i j (f y) mid midMarks now new newMarks after) where
+    module _ {new newMarks : List ℕ} {after : ℕ} (h : y < to) (b : Added n N room A i j (f y) mid midMarks total new newMarks after) where
       one-more : Added n N room A i j (flatUp f from (y + 1 - from)) old oldMarks count new newMarks after
       one-more =
           added-as (ap (λ (k : ℕ). flatUp f from (y - from) ++ f k) at ∙ (sym (flatUp-more f from (y - from)) ∙ ap (flatUp f from) next))
@@ -200,7 +200,7 @@ module _ {n N room A i j : ℕ} {f : ℕ → List Record} {from to : ℕ} where
           all = omega arith
 
     -- A place with no candidates.
-    pub loop-skip : y < to → f y ≡ [] → Looped n N room A i j f from to old oldMarks count mid midMarks (y + 1) now
+    pub loop-skip : y < to → f y ≡ [] → Looped n N room A i j f from to old oldMarks count mid midMarks (y + 1) total
     loop-skip h e = loop-turn h (added-as (sym e) (added-none (l .sofar .works (l .fits)))) (l .fits)
 
 -- A record below the count: its foot fits, and is the one that it had when the cell was begun.
@@ -229,10 +229,10 @@ module _ {n N room A i j : ℕ} where
   record-there y w h = omega (arith, w .roomThere, w .countFits)
 
   -- In a loop: a record that takes its foot from the one at y, read in the present room, takes it from the records at the begin.
-  pub loop-foot : {f : ℕ → List Record} {from to : ℕ} {old oldMarks mid midMarks new newMarks : List ℕ} {count y now after : ℕ}
-      {φ : Foot} {p x d z : ℕ} (base : ℕ) → Looped n N room A i j f from to old oldMarks count mid midMarks y now → y < to → to ≤ base
+  pub loop-foot : {f : ℕ → List Record} {from to : ℕ} {old oldMarks mid midMarks new newMarks : List ℕ} {count y total after : ℕ}
+      {φ : Foot} {p x d z : ℕ} (base : ℕ) → Looped n N room A i j f from to old oldMarks count mid midMarks y total → y < to → to ≤ base
       → base ≤ count → φ ≡ footThere mid y
-      → Added n N room A i j (recorded (item A i j φ) p x d z ∷ []) mid midMarks now new newMarks after
-      → Added n N room A i j (recorded (item A i j (footAt (chartIn old base) y)) p x d z ∷ []) mid midMarks now new newMarks after
+      → Added n N room A i j (recorded (item A i j φ) p x d z ∷ []) mid midMarks total new newMarks after
+      → Added n N room A i j (recorded (item A i j (footAt (chartIn old base) y)) p x d z ∷ []) mid midMarks total new newMarks after
   loop-foot {y = y} {p = p} {x} {d} {z} base l h u v e b =
       added-as (ap (λ (φ : Foot). recorded (item A i j φ) p x d z ∷ []) (e ∙ sym (foot-kept base y (omega arith) v (l .sofar)))) b

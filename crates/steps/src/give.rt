@@ -2,12 +2,12 @@
 use crate::hand::Side;
 use records::add::Sizes;
 use records::record::Cell;
-use records::record::Step;
+use records::record::Origin;
 ghost use Prim.Native.Nat.{_-_, _≤_, _<_};
 ghost use Rattle.chart_model.specs.Build.{flatUp, continued, givenFrom};
 ghost use Rattle.records.specs.Room.{chartIn, Working, Added};
 ghost use Rattle.records.specs.Index.{SpanFits, Indexed};
-ghost use Rattle.records.specs.Cover.{Covering, Stretch, Advanced};
+ghost use Rattle.records.specs.Cover.{Covering, CellRange, Advanced};
 
 // Each continuation of one dependent.
 fn continue_each(
@@ -25,23 +25,23 @@ fn continue_each(
     ensures { λ r. ⌜ Added (z .words) (z .symbols) (z .room) (c .left) (c .from) (c .to) (flatUp (continued (chartIn (now (chart .entry)) (z .base)) (c .left) (c .from) (c .to) (s .production) (s .position) y) from (to - from)) (now (chart .entry)) (now (marks .entry)) count (now (chart .exit)) (now (marks .exit)) r ⌝ }
 {
     let mut k = from;
-    let mut now = count;
+    let mut total = count;
     while k < to {
         let f = records::record::foot_at(chart, k);
         let number = records::record::number_at(chart, k);
-        let step = Step {
+        let origin = Origin {
             production: s.production,
             side: s.position,
             dependent: y,
             continuation: k as u16,
         };
-        now = records::add::add(chart, marks, z, c, f, number, step, now);
-        if z.room < now {
-            return now;
+        total = records::add::add(chart, marks, z, c, f, number, origin, total);
+        if z.room < total {
+            return total;
         }
         k += 1;
     }
-    now
+    total
 }
 
 // The same for all the continuations of the cell at a place, which is noted then.
@@ -58,19 +58,19 @@ fn continue_all(
     to: usize,
     count: usize,
 ) -> usize
-    requires { ⌜ Working (z .words) (z .symbols) (z .room) (c .left) (c .from) (c .to) (now chart) (now marks) count × (to ≤ z .base) × (z .base ≤ count) × Stretch (z .words) (z .symbols) (chartIn (now chart) (z .base)) at from to × Covering (z .words) (z .symbols) (c .left) (c .from) (c .to) (chartIn (now chart) (z .base)) (chartIn (now chart) count) (now covers) × SpanFits (z .words) (z .symbols) (c .left) (c .from) (c .to) ⌝ }
+    requires { ⌜ Working (z .words) (z .symbols) (z .room) (c .left) (c .from) (c .to) (now chart) (now marks) count × (to ≤ z .base) × (z .base ≤ count) × CellRange (z .words) (z .symbols) (chartIn (now chart) (z .base)) at from to × Covering (z .words) (z .symbols) (c .left) (c .from) (c .to) (chartIn (now chart) (z .base)) (chartIn (now chart) count) (now covers) × SpanFits (z .words) (z .symbols) (c .left) (c .from) (c .to) ⌝ }
     ensures { λ r. ⌜ Advanced (z .words) (z .symbols) (z .room) (c .left) (c .from) (c .to) (z .base) (flatUp (continued (chartIn (now (chart .entry)) (z .base)) (c .left) (c .from) (c .to) (s .production) (s .position) y) from (to - from)) (now (chart .entry)) (now (marks .entry)) count (now (chart .exit)) (now (marks .exit)) (now (covers .exit)) r ⌝ }
 {
     if to <= from {
         return count;
     }
     let own = crate::hand::own_at(z, c);
-    let now = continue_each(chart, marks, z, c, s, y, from, to, count);
-    if z.room < now {
-        return now;
+    let total = continue_each(chart, marks, z, c, s, y, from, to, count);
+    if z.room < total {
+        return total;
     }
     records::cover::note(covers, own, at);
-    now
+    total
 }
 
 // Those of the dependent at y, if its index is the one to give. The cell of its foot is the eighth part of the foot's number; it is passed
@@ -96,7 +96,7 @@ fn give_one(
     }
     let cell = records::record::number_at(chart, y) / 8;
     let own = crate::hand::own_at(z, c);
-    if records::cover::passes(covers, own, cell) {
+    if records::cover::is_covered(covers, own, cell) {
         return count;
     }
     let r = records::index::range_of(index, cell);
@@ -132,13 +132,13 @@ pub fn give_each(
     ensures { λ r. ⌜ Advanced (z .words) (z .symbols) (z .room) (c .left) (c .from) (c .to) (z .base) (flatUp (givenFrom (chartIn (now (chart .entry)) (z .base)) (c .left) (c .from) (c .to) (s .production) (s .position) g) from (to - from)) (now (chart .entry)) (now (marks .entry)) count (now (chart .exit)) (now (marks .exit)) (now (covers .exit)) r ⌝ }
 {
     let mut y = from;
-    let mut now = count;
+    let mut total = count;
     while y < to {
-        now = give_one(chart, marks, index, covers, z, c, s, g, y, now);
-        if z.room < now {
-            return now;
+        total = give_one(chart, marks, index, covers, z, c, s, g, y, total);
+        if z.room < total {
+            return total;
         }
         y += 1;
     }
-    now
+    total
 }

@@ -1,14 +1,14 @@
 // The deduction steps of one production over one split. In each contract the records that may be added are those of the model
 // (chart_model), made from the records that were there when the cell was begun.
+use crate::element::Element;
 use crate::hand::Side;
-use crate::parts::Element;
 use card::Action;
 use card::Production;
 use records::add::Sizes;
 use records::record::Cell;
 use records::record::Foot;
 use records::record::NOWHERE;
-use records::record::Step;
+use records::record::Origin;
 use records::record::wide;
 ghost use mathlib.Core.Path.{_≡_};
 ghost use Prim.Native.Nat.{_-_, _≤_, _<_};
@@ -40,13 +40,13 @@ fn take_one(
     if to <= from {
         return count;
     }
-    let step = Step {
+    let origin = Origin {
         production: s.production,
         side: s.position,
         dependent: from as u16,
         continuation: NOWHERE,
     };
-    records::add::add(chart, marks, z, c, f, number, step, count)
+    records::add::add(chart, marks, z, c, f, number, origin, count)
 }
 
 fn by_action(
@@ -156,15 +156,33 @@ pub fn by_production(
     requires { ⌜ Working (z .words) (z .symbols) (z .room) (c .left) (c .from) (c .to) (now chart) (now marks) count × (z .base ≤ count) × Indexed (z .words) (z .symbols) (chartIn (now chart) (z .base)) (now index) × RuleFits (z .symbols) (ruleFrom rule) × (c .from < k) × (k < c .to) × (c .to ≤ z .words) × Covering (z .words) (z .symbols) (c .left) (c .from) (c .to) (chartIn (now chart) (z .base)) (chartIn (now chart) count) (now covers) × SpanFits (z .words) (z .symbols) (c .left) (c .from) (c .to) ⌝ }
     ensures { λ r. ⌜ Advanced (z .words) (z .symbols) (z .room) (c .left) (c .from) (c .to) (z .base) (byRule (chartIn (now (chart .entry)) (z .base)) (c .left) (c .from) k (c .to) p (ruleFrom rule)) (now (chart .entry)) (now (marks .entry)) count (now (chart .exit)) (now (marks .exit)) (now (covers .exit)) r ⌝ }
 {
-    let parts = crate::parts::parts_of(rule);
-    if !parts.pair {
-        return count;
+    match rule {
+        Production::Word { left: _, word: _ } => count,
+        Production::SideFirst {
+            left,
+            action: a,
+            side,
+            dependent,
+        } => {
+            if left != c.left {
+                return count;
+            }
+            let first = crate::element::first_at(c, k, side);
+            let last = crate::element::last_at(c, k, dependent);
+            with_side(chart, marks, index, covers, z, c, p, first, a, last, count)
+        }
+        Production::SideLast {
+            left,
+            action: a,
+            dependent,
+            side,
+        } => {
+            if left != c.left {
+                return count;
+            }
+            let first = crate::element::first_at(c, k, dependent);
+            let last = crate::element::last_at(c, k, side);
+            with_side(chart, marks, index, covers, z, c, p, last, a, first, count)
+        }
     }
-    if parts.left != c.left {
-        return count;
-    }
-    let action = parts.action;
-    let side = crate::parts::element_at(c, k, parts.side, parts.leads);
-    let d = crate::parts::element_at(c, k, parts.dependent, !parts.leads);
-    with_side(chart, marks, index, covers, z, c, p, side, action, d, count)
 }

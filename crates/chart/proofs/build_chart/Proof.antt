@@ -9,7 +9,7 @@ use Rattle.chart.proofs.build_chart.Lts as lts
 use Rattle.chart.proofs.sized.build_in.Reads as build-in-reads
 use Rattle.records.proofs.room.capacity.Reads as capacity-reads
 use Rattle.records.proofs.room.clear.Reads as clear-reads
-use Rattle.records.proofs.room.settle.Reads as settle-reads
+use Rattle.records.proofs.room.clear_numbers.Reads as clear-numbers-reads
 
 capacity-requires : tie.Need-capacity-requires
 capacity-requires c κs = search needs
@@ -28,8 +28,8 @@ returns c =
     built-over (c .before .before .before .before .before .before .before .before .before .before .before .before .pre) (c .before .before .before .before .before .before .before .before .before .capacity .ensures) (c .before .before .before .before .before .before .before .build-in .ensures) (c .before .before .before .before .if1 .taken)
     (c .before .before .clear .ensures)
 
-settle-requires : tie.Need-settle-requires
-settle-requires c κs = search needs
+clear-numbers-requires : tie.Need-clear-numbers-requires
+clear-numbers-requires c κs = search needs
 
 same-length-2 : tie.Need-same-length-2
 same-length-2 c = search needs
@@ -37,7 +37,7 @@ same-length-2 c = search needs
 returns-2 : tie.Need-returns-2
 returns-2 c =
     built-within (c .before .before .before .before .before .before .before .before .before .before .before .before .pre) (c .before .before .before .before .before .before .before .before .before .capacity .ensures) (c .before .before .before .before .before .before .before .build-in .ensures) (c .before .before .before .before .if1 .left)
-    (c .before .before .settle .ensures)
+    (c .before .before .clear-numbers .ensures)
 
 pub build-chart-spec : {M : Type 1} → statement M
 build-chart-spec =
@@ -48,6 +48,6 @@ build-chart-spec =
     clear-requires
     same-length
     returns
-    settle-requires
+    clear-numbers-requires
     same-length-2
     returns-2)

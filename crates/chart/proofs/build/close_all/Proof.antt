@@ -17,16 +17,16 @@ use Rattle.chart.proofs.build.close_all.Statement.{statement}
 use Rattle.chart.proofs.build.close_all.Tie as tie
 
 abbrev Inv-loop : tie.InvT-loop
-Inv-loop chart₀ marks₀ index₀ covers₀ sets₀ both₀ by n symbols room rules many words e₀ now₀ chart marks index covers sets both e now =
-    (e ≤ n) × (now ≤ room)
-    × Filled (grammarIn rules many) n symbols room (λ A i j. ⊥)
-    (foldUp (closeEnd room (grammarIn rules many) (wordIs (take n words)) symbols) e (some [])) chart₀ 0 chart marks index covers sets
-    now
+Inv-loop chart₀ marks₀ index₀ covers₀ sets₀ both₀ by n symbols room rules many words e₀ total₀ chart marks index covers sets both e total =
+    (e ≤ n) × (total ≤ room)
+    × Filled (grammarIn rules many) n symbols room
+    (foldUp (closeEnd room (grammarIn rules many) (wordIs (take n words)) symbols) e (some [])) chart₀ chart marks index covers sets
+    total
     × (length marks ≡ length marks₀) × (length index ≡ length index₀) × (length covers ≡ length covers₀)
     × (length sets ≡ length sets₀) × (length both ≡ 25)
 
 abbrev μ-loop : tie.MeasureT-loop
-μ-loop chart₀ marks₀ index₀ covers₀ sets₀ both₀ by n symbols room rules many words e₀ now₀ chart marks index covers sets both e now = n - e
+μ-loop chart₀ marks₀ index₀ covers₀ sets₀ both₀ by n symbols room rules many words e₀ total₀ chart marks index covers sets both e total = n - e
 
 loop-holds : tie.Need-loop-holds Inv-loop μ-loop
 loop-holds c =
@@ -45,7 +45,7 @@ close-end-requires c κs =
       c .before .before .before .before .before .before .loop-test .taken,
       p .3,
       (λ A i. fresh-end (a .room) (grammarIn (a .rules .now) (a .many)) (wordIs (take (a .n) (a .words .now))) (a .symbols) (l .e) A i
-          (state-some (a .room) (l .now) (l .chart) (inv .2 .model) (inv .1))),
+          (state-some (a .room) (l .total) (l .chart) (inv .2 .model) (inv .1))),
       p .4,
       inv .7,
     )
@@ -75,8 +75,7 @@ returns c =
     let f = closeEnd (a .room) g at (a .symbols) in
     closed-all
     (fold-over f (l .e + 1) (a .n) (some []) (end-none (a .room) g at (a .symbols))
-    (fold-then f (l .e) (some []) (inv .2) (inv .1) (end-grows (a .room) g at (a .symbols)) (c .before .before .before .before .before .before .before .before .before .before .before .close-end .ensures .0)
-    (λ A i j o. absurd o)) (c .if1 .taken) (omega (arith, c .before .before .before .before .before .before .before .before .before .before .before .before .before .before .before .before .before .before .loop-test .taken)))
+    (fold-then f (l .e) (some []) (inv .2) (inv .1) (end-grows (a .room) g at (a .symbols)) (c .before .before .before .before .before .before .before .before .before .before .before .close-end .ensures .0)) (c .if1 .taken) (omega (arith, c .before .before .before .before .before .before .before .before .before .before .before .before .before .before .before .before .before .before .loop-test .taken)))
 
 add-e : tie.Need-add-e Inv-loop μ-loop
 add-e c = omega (arith, c .before .before .before .before .before .before .before .before .before .before .before .before .before .before .before .before .before .before .loop-test .taken, c .before .before .before .before .before .before .before .before .before .before .before .before .before .before .before .before .before .before .before .before .before .before .before .before .before .pre .0 .wordsFit)
@@ -95,8 +94,7 @@ loop-again c =
     let k = c .before .before .before .before .before .before .before .before .before .before .before .close-end .kept in (
       omega (arith, c .before .before .before .before .before .before .before .before .before .before .before .before .before .before .before .before .before .before .loop-test .taken),
       c .if1 .left,
-      fold-then f (l .e) (some []) (inv .2) (inv .1) (end-grows (a .room) g at (a .symbols)) (c .before .before .before .before .before .before .before .before .before .before .before .close-end .ensures .0)
-          (λ A i j o. absurd o),
+      fold-then f (l .e) (some []) (inv .2) (inv .1) (end-grows (a .room) g at (a .symbols)) (c .before .before .before .before .before .before .before .before .before .before .before .close-end .ensures .0),
       k .1 .0 ∙ inv .3,
       k .1 .1 .0 ∙ inv .4,
       k .1 .1 .1 .0 ∙ inv .5,

@@ -7,7 +7,7 @@ use lib.ListN.{take, length}
 use Rattle.grammar.specs.Input.{wordIs}
 use Rattle.chart_model.specs.Build.{foldUp, closeBack}
 use Rattle.chart_model.proofs.FillModel.{span-none}
-use Rattle.chart.specs.Fill.{Filled, OtherEnd}
+use Rattle.chart.specs.Fill.{Filled}
 use Rattle.chart.specs.Tables.{grammarIn}
 use Rattle.records.specs.Room.{chartIn}
 use Rattle.chart.proofs.FillSpans.{filled-none, fresh-span, span-turn, span-grows, fold-then, fold-over, fold-at}
@@ -16,16 +16,16 @@ use Rattle.chart.proofs.build.close_end.Statement.{statement}
 use Rattle.chart.proofs.build.close_end.Tie as tie
 
 abbrev Inv-loop : tie.InvT-loop
-Inv-loop chart₀ marks₀ index₀ covers₀ sets₀ both₀ by n symbols room e rules many words count m₀ now₀ chart marks index covers sets both m now =
-    (m ≤ e + 1) × (now ≤ room)
-    × Filled (grammarIn rules many) n symbols room (OtherEnd (e + 1))
+Inv-loop chart₀ marks₀ index₀ covers₀ sets₀ both₀ by n symbols room e rules many words count m₀ total₀ chart marks index covers sets both m total =
+    (m ≤ e + 1) × (total ≤ room)
+    × Filled (grammarIn rules many) n symbols room
     (foldUp (closeBack room (grammarIn rules many) (wordIs (take n words)) symbols e) m (some (chartIn chart₀ count)))
-    chart₀ count chart marks index covers sets now
+    chart₀ chart marks index covers sets total
     × (length marks ≡ length marks₀) × (length index ≡ length index₀) × (length covers ≡ length covers₀)
     × (length sets ≡ length sets₀) × (length both ≡ 25)
 
 abbrev μ-loop : tie.MeasureT-loop
-μ-loop chart₀ marks₀ index₀ covers₀ sets₀ both₀ by n symbols room e rules many words count m₀ now₀ chart marks index covers sets both m now = e + 1 - m
+μ-loop chart₀ marks₀ index₀ covers₀ sets₀ both₀ by n symbols room e rules many words count m₀ total₀ chart marks index covers sets both m total = e + 1 - m
 
 loop-holds : tie.Need-loop-holds Inv-loop μ-loop
 loop-holds c =
@@ -48,7 +48,7 @@ close-span-requires c κs =
       omega (arith, p .3),
       p .4,
       (λ A. fresh-span (chartIn (a .chart .now) (a .count)) (a .room) (grammarIn (a .rules .now) (a .many)) (wordIs (take (a .n) (a .words .now)))
-          (a .symbols) (a .e) (l .m) A (c .before .before .before .before .before .before .loop-test .taken) (p .5) (state-some (a .room) (l .now) (l .chart) (inv .2 .model) (inv .1))),
+          (a .symbols) (a .e) (l .m) A (c .before .before .before .before .before .before .loop-test .taken) (p .5) (state-some (a .room) (l .total) (l .chart) (inv .2 .model) (inv .1))),
       p .6,
       inv .7,
     )
@@ -79,7 +79,7 @@ returns c =
     let s = some (chartIn (a .chart .now) (a .count)) in (
       fold-over f (l .m + 1) (suc (a .e)) s (λ m. span-none (a .room) g at (a .symbols) (suc m) (a .e - m))
           (fold-then f (l .m) s (inv .2) (inv .1) (span-grows (a .room) g at (a .symbols) (a .e))
-          (span-turn at (a .e) (l .m) (c .before .before .before .before .before .before .before .before .before .before .before .before .before .before .before .before .before .before .loop-test .taken) (c .before .before .before .before .before .before .before .before .before .before .before .close-span .ensures .0)) (λ A x y o u v. o (omega arith))) (c .if1 .taken)
+          (span-turn at (a .e) (l .m) (l .total) (c .before .before .before .before .before .before .before .before .before .before .before .before .before .before .before .before .before .before .loop-test .taken) (c .before .before .before .before .before .before .before .before .before .before .before .close-span .ensures .0))) (c .if1 .taken)
           (omega (arith, c .before .before .before .before .before .before .before .before .before .before .before .before .before .before .before .before .before .before .loop-test .taken)),
       c .before .before .before .before .before .before .before .before .before .before .before .close-span .ensures .1,
     )
@@ -103,7 +103,7 @@ loop-again c =
       omega (arith, c .before .before .before .before .before .before .before .before .before .before .before .before .before .before .before .before .before .before .loop-test .taken),
       c .if1 .left,
       fold-then f (l .m) s (inv .2) (inv .1) (span-grows (a .room) g at (a .symbols) (a .e))
-          (span-turn at (a .e) (l .m) (c .before .before .before .before .before .before .before .before .before .before .before .before .before .before .before .before .before .before .loop-test .taken) (c .before .before .before .before .before .before .before .before .before .before .before .close-span .ensures .0)) (λ A x y o u v. o (omega arith)),
+          (span-turn at (a .e) (l .m) (l .total) (c .before .before .before .before .before .before .before .before .before .before .before .before .before .before .before .before .before .before .loop-test .taken) (c .before .before .before .before .before .before .before .before .before .before .before .close-span .ensures .0)),
       k .1 .0 ∙ inv .3,
       k .1 .1 .0 ∙ inv .4,
       k .1 .1 .1 .0 ∙ inv .5,

@@ -10,7 +10,7 @@ use borrow.Author.Needs.{needs}
 use Rattle.grammar.specs.Input.{wordIs}
 use Rattle.grammar.specs.Chart.{Record}
 use Rattle.chart_model.specs.Build.{foldUp, fillCell}
-use Rattle.chart.specs.Fill.{Filled, OtherSpan}
+use Rattle.chart.specs.Fill.{Filled}
 use Rattle.chart.specs.Tables.{grammarIn}
 use Rattle.records.specs.Room.{chartIn}
 use Rattle.chart.proofs.FillSpans.{filled-none, idle-span, turn-set, turn-splits, fresh-turn, cell-grows, fold-then, span-pass, fold-over, fold-at}
@@ -19,16 +19,16 @@ use Rattle.chart.proofs.build.close_span.Statement.{statement}
 use Rattle.chart.proofs.build.close_span.Tie as tie
 
 abbrev Inv-loop : tie.InvT-loop
-Inv-loop chart₀ marks₀ index₀ covers₀ sets₀ both by n symbols room i j rules many words count set splits a₀ now₀ chart marks index covers sets a now =
-    (a ≤ symbols) × (now ≤ room)
-    × Filled (grammarIn rules many) n symbols room (OtherSpan i j)
+Inv-loop chart₀ marks₀ index₀ covers₀ sets₀ both by n symbols room i j rules many words count set splits a₀ total₀ chart marks index covers sets a total =
+    (a ≤ symbols) × (total ≤ room)
+    × Filled (grammarIn rules many) n symbols room
     (foldUp (fillCell room (grammarIn rules many) (wordIs (take n words)) (j - i) i) a (some (chartIn chart₀ count)))
-    chart₀ count chart marks index covers sets now
+    chart₀ chart marks index covers sets total
     × (length marks ≡ length marks₀) × (length index ≡ length index₀) × (length covers ≡ length covers₀)
     × (length sets ≡ length sets₀)
 
 abbrev μ-loop : tie.MeasureT-loop
-μ-loop chart₀ marks₀ index₀ covers₀ sets₀ both by n symbols room i j rules many words count set splits a₀ now₀ chart marks index covers sets a now = symbols - a
+μ-loop chart₀ marks₀ index₀ covers₀ sets₀ both by n symbols room i j rules many words count set splits a₀ total₀ chart marks index covers sets a total = symbols - a
 
 -- The model's turns, and where they start.
 module _ (s : tie.Start Inv-loop μ-loop) where
@@ -49,14 +49,14 @@ module _ (c : tie.After-fill-left Inv-loop μ-loop) where
   here = c .before .before .before .before .before .before .before .before .before
 
   filled : Filled (grammarIn (start .args .rules .now) (start .args .many)) (start .args .n) (start .args .symbols) (start .args .room)
-      (OtherSpan (start .args .i) (start .args .j)) (foldUp (turn start) (here .loop .a + 1) (before start)) (start .args .chart .now)
-      (start .args .count) (c .fill-left .last .0) (c .fill-left .last .1 .0) (c .fill-left .last .1 .1 .0)
+      (foldUp (turn start) (here .loop .a + 1) (before start)) (start .args .chart .now)
+      (c .fill-left .last .0) (c .fill-left .last .1 .0) (c .fill-left .last .1 .1 .0)
       (c .fill-left .last .1 .1 .1 .0) (c .fill-left .last .1 .1 .1 .1 .0) (c .fill-left .result)
   filled =
       let a = start .args in
       fold-then (turn start) (here .loop .a) (before start) (here .loop .inv .2) (here .loop .inv .1)
       (cell-grows (a .room) (grammarIn (a .rules .now) (a .many)) (wordIs (take (a .n) (a .words .now))) (a .j - a .i) (a .i))
-      (c .fill-left .ensures) (λ A i j o _ x y. o x y)
+      (c .fill-left .ensures)
 
 span-set-requires : tie.Need-span-set-requires Inv-loop μ-loop
 span-set-requires c κs =
@@ -104,7 +104,7 @@ fill-left-requires c κs =
     let l = c .before .before .before .before .before .before .before .before .loop in
     let inv = l .inv in
     let taken = c .before .before .before .before .before .before .before .loop-test .taken in
-    let state = state-some (a .room) (l .now) (l .chart) (inv .2 .model) (inv .1) in (
+    let state = state-some (a .room) (l .total) (l .chart) (inv .2 .model) (inv .1) in (
       inv .2 .ready (inv .1),
       p .1,
       p .2,

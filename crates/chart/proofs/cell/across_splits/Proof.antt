@@ -24,15 +24,15 @@ use Rattle.chart.proofs.cell.across_splits.Statement.{statement}
 use Rattle.chart.proofs.cell.across_splits.Tie as tie
 
 abbrev Inv-loop : tie.InvT-loop
-Inv-loop chart₀ marks₀ index covers₀ both splits z c rules many p count rule back sum turns rest₀ now₀ chart marks covers rest now =
+Inv-loop chart₀ marks₀ index covers₀ both splits z c rules many p count rule back sum turns rest₀ total₀ chart marks covers rest total =
     (y : ℕ)
     × Advancing (z .words) (z .symbols) (z .room) (c .left) (c .from) (c .to) (z .base)
     (λ b. ruleAt b (c .left) (c .from) (c .to) p (packedRule (getD rules p 0))) (suc (c .from)) (c .to) chart₀ marks₀ covers₀ count
-    chart marks covers y now
+    chart marks covers y total
     × Walk turns rest y
 
 abbrev μ-loop : tie.MeasureT-loop
-μ-loop chart₀ marks₀ index covers₀ both splits z c rules many p count rule back sum turns rest₀ now₀ chart marks covers rest now = rest
+μ-loop chart₀ marks₀ index covers₀ both splits z c rules many p count rule back sum turns rest₀ total₀ chart marks covers rest total = rest
 
 -- The rule, and its records at a turn.
 abbrev rule : tie.Start Inv-loop μ-loop → Rule
@@ -77,7 +77,7 @@ module _ (c : tie.After-least Inv-loop μ-loop) where
       let loop = c .before .before .loop in
       Advancing (a .z .words) (a .z .symbols) (a .z .room) (a .c .left) (a .c .from) (a .c .to) (a .z .base) (by (start begun))
       (suc (a .c .from)) (a .c .to) (a .chart .now) (a .marks .now) (a .covers .now) (a .count) (loop .chart) (loop .marks) (loop .covers)
-      (c .least .result) (loop .now)
+      (c .least .result) (loop .total)
   passed =
       let inv = c .before .before .loop .inv in
       advance-to {F = by (start begun)} (inv .1) (c .least .result) (walk-from (inv .2) (c .least .ensures)) (omega (arith, within))

@@ -20,15 +20,15 @@ use Rattle.chart.proofs.cell.fill_items.Statement.{statement}
 use Rattle.chart.proofs.cell.fill_items.Tie as tie
 
 abbrev Inv-loop : tie.InvT-loop
-Inv-loop chart₀ marks₀ index covers₀ both splits z c rules many words set count rest₀ now₀ chart marks covers rest now =
+Inv-loop chart₀ marks₀ index covers₀ both splits z c rules many words set count rest₀ total₀ chart marks covers rest total =
     (y : ℕ)
     × Advancing (z .words) (z .symbols) (z .room) (c .left) (c .from) (c .to) (z .base)
     (λ b. chosen set rules (wordIs (take (z .words) words)) b (c .left) (c .from) (c .to - c .from)) 0 64 chart₀ marks₀ covers₀ count
-    chart marks covers y now
+    chart marks covers y total
     × Walk set rest y
 
 abbrev μ-loop : tie.MeasureT-loop
-μ-loop chart₀ marks₀ index covers₀ both splits z c rules many words set count rest₀ now₀ chart marks covers rest now = rest
+μ-loop chart₀ marks₀ index covers₀ both splits z c rules many words set count rest₀ total₀ chart marks covers rest total = rest
 
 -- The records of production p, if it is in the set.
 abbrev by : tie.Start Inv-loop μ-loop → List Record → ℕ → List Record
@@ -52,7 +52,7 @@ module _ (c : tie.After-least Inv-loop μ-loop) where
   passed : let a = start .args in
       let loop = c .before .before .loop in
       Advancing (a .z .words) (a .z .symbols) (a .z .room) (a .c .left) (a .c .from) (a .c .to) (a .z .base) (by start) 0 64
-      (a .chart .now) (a .marks .now) (a .covers .now) (a .count) (loop .chart) (loop .marks) (loop .covers) (c .least .result) (loop .now)
+      (a .chart .now) (a .marks .now) (a .covers .now) (a .count) (loop .chart) (loop .marks) (loop .covers) (c .least .result) (loop .total)
   passed =
       let a = start .args in
       let loop = c .before .before .loop in
@@ -61,15 +61,15 @@ module _ (c : tie.After-least Inv-loop μ-loop) where
       (a .c .from) (a .c .to - a .c .from) (loop .rest) (loop .inv .0) (loop .inv .2) (c .least .result) (c .least .ensures))
 
 -- What the call in a turn adds.
-abbrev turn : tie.After-by-rule Inv-loop μ-loop → tie.After-least Inv-loop μ-loop
+abbrev turn : tie.After-by-rule-over Inv-loop μ-loop → tie.After-least Inv-loop μ-loop
 turn c = c .before .before .before .before .before
 
-turned : (c : tie.After-by-rule Inv-loop μ-loop)
+turned : (c : tie.After-by-rule-over Inv-loop μ-loop)
     → let a = start (turn c) .args in
     let loop = turn c .before .before .loop in
     Advanced (a .z .words) (a .z .symbols) (a .z .room) (a .c .left) (a .c .from) (a .c .to) (a .z .base)
-    (by (start (turn c)) (chartIn (loop .chart) (a .z .base)) (turn c .least .result)) (loop .chart) (loop .marks) (loop .now)
-    (c .by-rule .last .0) (c .by-rule .last .1 .0) (c .by-rule .last .1 .1 .1 .0) (c .by-rule .result)
+    (by (start (turn c)) (chartIn (loop .chart) (a .z .base)) (turn c .least .result)) (loop .chart) (loop .marks) (loop .total)
+    (c .by-rule-over .last .0) (c .by-rule-over .last .1 .0) (c .by-rule-over .last .1 .1 .1 .0) (c .by-rule-over .result)
 turned c =
     let here = turn c in
     let a = start here .args in
@@ -79,7 +79,7 @@ turned c =
     (chosen-next (a .set) (a .rules .now) (wordIs (take (a .z .words) (a .words .now))) b (a .c .left) (a .c .from) (a .c .to - a .c .from)
     (loop .rest) (loop .inv .0) (loop .inv .2) (here .least .result) (here .least .ensures)
     (omega (arith, below here, start here .pre .3 .long)))
-    (c .by-rule .ensures)
+    (c .by-rule-over .ensures)
 
 loop-holds : tie.Need-loop-holds Inv-loop μ-loop
 loop-holds c =
@@ -92,8 +92,8 @@ least-requires c κs = c .loop-test .taken
 without-requires : tie.Need-without-requires Inv-loop μ-loop
 without-requires c κs = (c .least .ensures .small, c .least .ensures .has)
 
-by-rule-requires : tie.Need-by-rule-requires Inv-loop μ-loop
-by-rule-requires c κs =
+by-rule-over-requires : tie.Need-by-rule-over-requires Inv-loop μ-loop
+by-rule-over-requires c κs =
     let here = c .before .before .before .before in
     let inv = here .before .before .loop .inv .1 in
     let pre = start here .pre in
@@ -115,17 +115,17 @@ by-rule-requires c κs =
 same-length : tie.Need-same-length Inv-loop μ-loop
 same-length c =
     let call = c .before .before .before .before .before .before .before .before in
-    call .by-rule .ensures .added .sameRoom ∙ turn call .before .before .loop .inv .1 .looped .sofar .sameRoom
+    call .by-rule-over .ensures .added .sameRoom ∙ turn call .before .before .loop .inv .1 .looped .sofar .sameRoom
 
 same-length-2 : tie.Need-same-length-2 Inv-loop μ-loop
 same-length-2 c =
     let call = c .before .before .before .before .before .before .before .before in
-    call .by-rule .ensures .added .sameMarks ∙ turn call .before .before .loop .inv .1 .looped .sofar .sameMarks
+    call .by-rule-over .ensures .added .sameMarks ∙ turn call .before .before .loop .inv .1 .looped .sofar .sameMarks
 
 same-length-3 : tie.Need-same-length-3 Inv-loop μ-loop
 same-length-3 c =
     let call = c .before .before .before .before .before .before .before .before in
-    call .by-rule .kept .1 .1 .1 .0 ∙ turn call .before .before .loop .inv .1 .sameCovers
+    call .by-rule-over .kept .1 .1 .1 .0 ∙ turn call .before .before .loop .inv .1 .sameCovers
 
 returns : tie.Need-returns Inv-loop μ-loop
 returns c =
@@ -145,7 +145,7 @@ loop-again c =
     let loop = here .before .before .loop in (
       here .least .result + 1,
       advance-turn {F = by (start here)} (passed here) (start here .pre .1) (below here) (turned call) (c .if1 .left)
-          (call .by-rule .kept .1 .1 .1 .0),
+          (call .by-rule-over .kept .1 .1 .1 .0),
       walk-next (loop .inv .2) (here .least .ensures) (call .before .before .before .before .without .ensures),
     )
 
@@ -177,7 +177,7 @@ fill-items-spec =
     loop-holds
     least-requires
     without-requires
-    by-rule-requires
+    by-rule-over-requires
     same-length
     same-length-2
     same-length-3

@@ -35,7 +35,7 @@ returns c =
     let s = c .before .before .before .before .before in
     let a = s .args in
     added-seen (a .z .words) (a .z .symbols) (a .z .room) (a .c .left) (a .c .from) (a .c .to) (a .chart .now) (a .marks .now) (a .count) (s .pre .0)
-    (footFrom (a .f)) (a .s .production) (a .s .side) (a .s .dependent) (a .s .continuation) (s .pre .1)
+    (footFrom (a .f)) (a .o .production) (a .o .side) (a .o .dependent) (a .o .continuation) (s .pre .1)
     (looked s (c .before .seen .ensures) (c .if1 .taken))
 
 add-result : tie.Need-add-result
@@ -49,7 +49,7 @@ returns-2 c =
     let s = c .before .before .before .before .before .before .before .before in
     let a = s .args in
     added-full (a .z .words) (a .z .symbols) (a .z .room) (a .c .left) (a .c .from) (a .c .to) (a .chart .now) (a .marks .now) (a .count) (s .pre .0)
-    (footFrom (a .f)) (a .s .production) (a .s .side) (a .s .dependent) (a .s .continuation) (s .pre .1)
+    (footFrom (a .f)) (a .o .production) (a .o .side) (a .o .dependent) (a .o .continuation) (s .pre .1)
     (looked s (c .before .before .before .before .seen .ensures) (c .before .before .before .if1 .left)) (c .before .if2 .taken)
 
 mark-requires : tie.Need-mark-requires
@@ -80,9 +80,9 @@ returns-3 c =
     let s = m .before .before .before .before .before .before .before .before .before in
     let a = s .args in
     added-new (a .z .words) (a .z .symbols) (a .z .room) (a .c .left) (a .c .from) (a .c .to) (a .chart .now) (a .marks .now) (a .count) (s .pre .0)
-    (footFrom (a .f)) (a .s .production) (a .s .side) (a .s .dependent) (a .s .continuation) (s .pre .1)
+    (footFrom (a .f)) (a .o .production) (a .o .side) (a .o .dependent) (a .o .continuation) (s .pre .1)
     (p .last .0) (m .mark .last .0) (m .before .before .if2 .left)
-    (p .ensures ∙ ap (λ (k : ℕ). placed (a .chart .now) (a .count) (withNumber k (recordFrom (a .c) (a .f) (a .s)))) (s .pre .3))
+    (p .ensures ∙ ap (λ (k : ℕ). placed (a .chart .now) (a .count) (withNumber k (recordFrom (a .c) (a .f) (a .o)))) (s .pre .3))
     (subst (λ (k : ℕ). MarkAdded k (a .marks .now) (m .mark .last .0)) (s .pre .3) (m .mark .ensures))
     (looked s (m .before .before .before .before .before .seen .ensures) (m .before .before .before .before .if1 .left))
 

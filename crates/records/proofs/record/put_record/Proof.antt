@@ -61,8 +61,8 @@ returns : tie.Need-returns
 returns c =
     let a = c .before .before .before .before .before .before .before .before .before .before .before .before .before .before .args in
     let h = c .before .before .before .before .before in
-    let bytes = as-bytes (a .c .left) (a .f .index) (a .c .from) (a .c .to) (a .f .symbol) (a .f .from) (a .f .to) (a .s .production)
-    (a .s .side) (a .s .dependent) (a .s .continuation) (a .number) (c .before .before .before .before .before .before .before .before .before .before .before .before .before .before .pre .1)
+    let bytes = as-bytes (a .c .left) (a .f .index) (a .c .from) (a .c .to) (a .f .symbol) (a .f .from) (a .f .to) (a .o .production)
+    (a .o .side) (a .o .dependent) (a .o .continuation) (a .number) (c .before .before .before .before .before .before .before .before .before .before .before .before .before .before .pre .1)
     (h .before .before .before .before .before .before .before .low .ensures) (h .before .before .before .before .before .before .high .ensures) (h .before .before .before .before .before .low2 .ensures) (h .before .before .before .before .high2 .ensures) (h .before .before .before .low3 .ensures) (h .before .before .high3 .ensures)
     (h .before .low4 .ensures) (h .high4 .ensures)
     in

@@ -11,13 +11,13 @@ use Rattle.steps.proofs.give.continue_each.Statement.{statement}
 use Rattle.steps.proofs.give.continue_each.Tie as tie
 
 abbrev Inv-loop : tie.InvT-loop
-Inv-loop chart₀ marks₀ z c s y from to count k₀ now₀ chart marks k now =
+Inv-loop chart₀ marks₀ z c s y from to count k₀ total₀ chart marks k total =
     Looped (z .words) (z .symbols) (z .room) (c .left) (c .from) (c .to)
     (continued (chartIn chart₀ (z .base)) (c .left) (c .from) (c .to) (s .production) (s .position) y) from to chart₀ marks₀ count
-    chart marks k now
+    chart marks k total
 
 abbrev μ-loop : tie.MeasureT-loop
-μ-loop chart₀ marks₀ z c s y from to count k₀ now₀ chart marks k now = to - k
+μ-loop chart₀ marks₀ z c s y from to count k₀ total₀ chart marks k total = to - k
 
 loop-holds : tie.Need-loop-holds Inv-loop μ-loop
 loop-holds c = loop-start (c .before .before .pre .0)

@@ -10,13 +10,13 @@ use Rattle.steps.proofs.give.give_each.Statement.{statement}
 use Rattle.steps.proofs.give.give_each.Tie as tie
 
 abbrev Inv-loop : tie.InvT-loop
-Inv-loop chart₀ marks₀ index covers₀ z c s g from to count y₀ now₀ chart marks covers y now =
+Inv-loop chart₀ marks₀ index covers₀ z c s g from to count y₀ total₀ chart marks covers y total =
     Advancing (z .words) (z .symbols) (z .room) (c .left) (c .from) (c .to) (z .base)
     (λ b. givenFrom b (c .left) (c .from) (c .to) (s .production) (s .position) g) from to chart₀ marks₀ covers₀ count chart marks
-    covers y now
+    covers y total
 
 abbrev μ-loop : tie.MeasureT-loop
-μ-loop chart₀ marks₀ index covers₀ z c s g from to count y₀ now₀ chart marks covers y now = to - y
+μ-loop chart₀ marks₀ index covers₀ z c s g from to count y₀ total₀ chart marks covers y total = to - y
 
 loop-holds : tie.Need-loop-holds Inv-loop μ-loop
 loop-holds c = let q = c .before .before .before .before .pre in advance-start (q .0) (q .5)

@@ -1,15 +1,15 @@
 -- `give_one` adds the records of a give from one dependent: none where its foot has another index, and else those of the continuations, whose
--- positions the table has as one stretch. The number of the foot tells where, and nothing is added where that cell is covered.
+-- positions the table has as one range. The number of the foot tells where, and nothing is added where that cell is covered.
 use Prim.Native.Nat.{_*_, _/_, _<_}
 use native.Mathlib.Omega.{arith}
 use mathlib.Core.Path.{_≡_, refl, sym, _∙_}
 use Rattle.records.specs.declared.index.Range.{Range}
 use Rattle.records.specs.Room.{chartIn, footFields}
 use Rattle.records.specs.Index.{spans, cellAt, rangeIn, SpanFits}
-use Rattle.records.specs.Cover.{Covering, Stretch}
+use Rattle.records.specs.Cover.{Covering, CellRange}
 use Rattle.records.proofs.TableLaws.{cell-below}
-use Rattle.steps.proofs.StepCandidates.{to-below, range-stretch, given-span, given-at, given-none, given-each}
-use Rattle.steps.proofs.StepCover.{advanced-kept, advanced-as, passes-fits, looked-at, passed-over}
+use Rattle.steps.proofs.StepCandidates.{to-below, cell-range, given-span, given-at, given-none, given-each}
+use Rattle.steps.proofs.StepCover.{advanced-kept, advanced-as, look-fits, looked-at, passed-over}
 use borrow.Author.Needs.{needs}
 use Rattle.steps.proofs.give.give_one.Statement.{statement}
 use Rattle.steps.proofs.give.give_one.Tie as tie
@@ -26,11 +26,11 @@ place : (c : tie.After-number-at) → let a = c .before .before .before .before 
 place c = let q = c .before .before .before .before .before .before .before .before .pre in given-at (q .0) _ _ (q .1) (q .2) (c .before .before .if1 .left) (q .3) (c .number-at .ensures)
 
 -- There the table has the positions of the cell's records.
-abbrev stretch : {R : Range} (c : tie.After-number-at) → let a = c .before .before .before .before .before .before .before .before .args in
+abbrev continuations : {R : Range} (c : tie.After-number-at) → let a = c .before .before .before .before .before .before .before .before .args in
     let at = c .number-at .result / 8 in
-    R ≡ rangeIn (a .index .now) at → Stretch (a .z .words) (a .z .symbols) (chartIn (a .chart .now) (a .z .base)) at (R .from) (R .to)
-stretch c r =
-    let s = c .before .before .before .before .before .before .before .before in range-stretch (s .args .chart .now) (s .args .z .base) (s .pre .4) (span c) refl refl refl (place c) r
+    R ≡ rangeIn (a .index .now) at → CellRange (a .z .words) (a .z .symbols) (chartIn (a .chart .now) (a .z .base)) at (R .from) (R .to)
+continuations c r =
+    let s = c .before .before .before .before .before .before .before .before in cell-range (s .args .chart .now) (s .args .z .base) (s .pre .4) (span c) refl refl refl (place c) r
 
 inside : (c : tie.After-number-at) → let a = c .before .before .before .before .before .before .before .before .args in c .number-at .result / 8 < spans (a .z .words) * a .z .symbols
 inside c =
@@ -40,12 +40,12 @@ inside c =
     omega (arith, place c, cell-below (a .z .words) (a .z .symbols) (f .symbol) (f .from) (f .to) (s .0) (s .1) (s .2))
 
 -- The table of covers once the cell was looked for.
-right : (c : tie.After-passes) → let a = c .before .before .before .before .before .before .before .before .before .before .before .args in
+right : (c : tie.After-is-covered) → let a = c .before .before .before .before .before .before .before .before .before .before .before .args in
     Covering (a .z .words) (a .z .symbols) (a .c .left) (a .c .from) (a .c .to) (chartIn (a .chart .now) (a .z .base))
-    (chartIn (a .chart .now) (a .count)) (c .passes .last .0)
+    (chartIn (a .chart .now) (a .count)) (c .is-covered .last .0)
 right c =
     let q = c .before .before .before .before .before .before .before .before .before .before .before .pre in
-    looked-at (q .0) (q .2) (stretch (c .before .before .before) refl) (q .5) (q .6) (c .before .before .own-at .ensures .0) (c .passes .ensures .1)
+    looked-at (q .0) (q .2) (continuations (c .before .before .before) refl) (q .5) (q .6) (c .before .before .own-at .ensures .0) (c .is-covered .ensures .1)
 
 mul-given : tie.Need-mul-given
 mul-given c = search needs
@@ -67,10 +67,10 @@ number-at-requires c κs = search needs
 own-at-requires : tie.Need-own-at-requires
 own-at-requires c κs = search needs
 
-passes-requires : tie.Need-passes-requires
-passes-requires c κs =
+is-covered-requires : tie.Need-is-covered-requires
+is-covered-requires c κs =
     let q = c .before .before .before .before .before .before .before .before .before .before .pre in
-    passes-fits (q .0) (q .2) (stretch (c .before .before) refl) (q .5) (q .6) (c .before .own-at .ensures .1)
+    look-fits (q .0) (q .2) (continuations (c .before .before) refl) (q .5) (q .6) (c .before .own-at .ensures .1)
 
 same-length : tie.Need-same-length
 same-length c = search needs
@@ -84,9 +84,9 @@ returns-2 c =
     let a = c .before .before .before .before .before .before .before .before .before .before .before .before .before .before .args in
     let n = c .before .before .before .before .before .before in
     let R = rangeIn (a .index .now) (n .number-at .result / 8) in
-    let e = c .before .before .before .passes .ensures in
-    advanced-as (given-each (q .0) _ _ (q .1) (q .2) (n .before .before .if1 .left) (q .3) _ _ R (stretch n refl .stands))
-    (passed-over (q .0) (q .2) (stretch n refl) (q .5) (q .6) _ (λ x. refl) (c .before .before .before .before .before .own-at .ensures .0) (sym (e .0) ∙ c .if2 .taken) (e .1))
+    let e = c .before .before .before .is-covered .ensures in
+    advanced-as (given-each (q .0) _ _ (q .1) (q .2) (n .before .before .if1 .left) (q .3) _ _ R (continuations n refl .stands))
+    (passed-over (q .0) (q .2) (continuations n refl) (q .5) (q .6) _ (λ x. refl) (c .before .before .before .before .before .own-at .ensures .0) (sym (e .0) ∙ c .if2 .taken) (e .1))
 
 range-of-requires : tie.Need-range-of-requires
 range-of-requires c κs = let n = c .before .before .before .before .before .before in omega (arith, inside n, n .before .before .before .before .before .before .before .before .pre .4 .long)
@@ -100,7 +100,7 @@ continue-all-requires c κs =
     let q = s .pre in
     let n = c .before .before .before .before .before .before .before .before .before .before in
     let r = c .before .before .before .range-of .ensures in
-    (q .0, to-below (s .args .chart .now) (s .args .z .base) (q .4) _ r, q .2, stretch n r, right (c .before .before .before .before .before .before .before), q .6)
+    (q .0, to-below (s .args .chart .now) (s .args .z .base) (q .4) _ r, q .2, continuations n r, right (c .before .before .before .before .before .before .before), q .6)
 
 same-length-3 : tie.Need-same-length-3
 same-length-3 c = search needs
@@ -115,7 +115,7 @@ returns-3 : tie.Need-returns-3
 returns-3 c =
     let q = c .before .before .before .before .before .before .before .before .before .before .before .before .before .before .before .before .before .before .before .before .before .before .before .before .before .pre in
     let n = c .before .before .before .before .before .before .before .before .before .before .before .before .before .before .before .before .before in
-    advanced-as (given-each (q .0) _ _ (q .1) (q .2) (n .before .before .if1 .left) (q .3) _ _ (c .before .before .before .before .before .before .before .before .before .before .range-of .result) (stretch n (c .before .before .before .before .before .before .before .before .before .before .range-of .ensures) .stands))
+    advanced-as (given-each (q .0) _ _ (q .1) (q .2) (n .before .before .if1 .left) (q .3) _ _ (c .before .before .before .before .before .before .before .before .before .before .range-of .result) (continuations n (c .before .before .before .before .before .before .before .before .before .before .range-of .ensures) .stands))
     (c .before .before .before .before .before .before .continue-all .ensures)
 
 pub give-one-spec : {M : Type 1} → statement M
@@ -128,7 +128,7 @@ give-one-spec =
     returns
     number-at-requires
     own-at-requires
-    passes-requires
+    is-covered-requires
     same-length
     same-length-2
     returns-2

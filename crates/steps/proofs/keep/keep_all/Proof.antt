@@ -3,18 +3,18 @@
 use mathlib.Core.Path.{refl, sym, _∙_}
 use Rattle.records.specs.Room.{chartIn}
 use Rattle.records.specs.Cover.{Covering}
-use Rattle.steps.proofs.StepCover.{advanced-kept, note-fits, passes-fits, looked-at, advanced-none, passed-over, taken-over}
+use Rattle.steps.proofs.StepCover.{advanced-kept, note-fits, look-fits, looked-at, advanced-none, passed-over, taken-over}
 use borrow.Author.Needs.{needs}
 use Rattle.steps.proofs.keep.keep_all.Statement.{statement}
 use Rattle.steps.proofs.keep.keep_all.Tie as tie
 
 -- The table once the cell was looked for.
-right : (c : tie.After-passes) → let a = c .before .before .before .before .before .before .before .args in
+right : (c : tie.After-is-covered) → let a = c .before .before .before .before .before .before .before .args in
     Covering (a .z .words) (a .z .symbols) (a .c .left) (a .c .from) (a .c .to) (chartIn (a .chart .now) (a .z .base))
-    (chartIn (a .chart .now) (a .count)) (c .passes .last .0)
+    (chartIn (a .chart .now) (a .count)) (c .is-covered .last .0)
 right c =
     let q = c .before .before .before .before .before .before .before .pre in
-    looked-at (q .0) (q .2) (q .3) (q .4) (q .5) (c .before .before .own-at .ensures .0) (c .passes .ensures .1)
+    looked-at (q .0) (q .2) (q .3) (q .4) (q .5) (c .before .before .own-at .ensures .0) (c .is-covered .ensures .1)
 
 returns : tie.Need-returns
 returns c =
@@ -24,10 +24,10 @@ returns c =
 own-at-requires : tie.Need-own-at-requires
 own-at-requires c κs = search needs
 
-passes-requires : tie.Need-passes-requires
-passes-requires c κs =
+is-covered-requires : tie.Need-is-covered-requires
+is-covered-requires c κs =
     let q = c .before .before .before .before .before .before .pre in
-    passes-fits (q .0) (q .2) (q .3) (q .4) (q .5) (c .before .own-at .ensures .1)
+    look-fits (q .0) (q .2) (q .3) (q .4) (q .5) (c .before .own-at .ensures .1)
 
 same-length : tie.Need-same-length
 same-length c = search needs
@@ -35,7 +35,7 @@ same-length c = search needs
 returns-2 : tie.Need-returns-2
 returns-2 c =
     let q = c .before .before .before .before .before .before .before .before .before .before .pre in
-    let e = c .before .before .before .passes .ensures in
+    let e = c .before .before .before .is-covered .ensures in
     passed-over (q .0) (q .2) (q .3) (q .4) (q .5) _ (λ x. refl) (c .before .before .before .before .before .own-at .ensures .0) (sym (e .0) ∙ c .if2 .taken) (e .1)
 
 keep-each-requires : tie.Need-keep-each-requires
@@ -81,7 +81,7 @@ keep-all-spec =
     (tie.spec
     returns
     own-at-requires
-    passes-requires
+    is-covered-requires
     same-length
     returns-2
     keep-each-requires

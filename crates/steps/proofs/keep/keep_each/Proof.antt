@@ -11,13 +11,13 @@ use Rattle.steps.proofs.keep.keep_each.Statement.{statement}
 use Rattle.steps.proofs.keep.keep_each.Tie as tie
 
 abbrev Inv-loop : tie.InvT-loop
-Inv-loop chart₀ marks₀ z c s from to count y₀ now₀ chart marks y now =
+Inv-loop chart₀ marks₀ z c s from to count y₀ total₀ chart marks y total =
     Looped (z .words) (z .symbols) (z .room) (c .left) (c .from) (c .to)
     (keptFrom (chartIn chart₀ (z .base)) (c .left) (c .from) (c .to) (s .production) (s .position)) from to chart₀ marks₀ count
-    chart marks y now
+    chart marks y total
 
 abbrev μ-loop : tie.MeasureT-loop
-μ-loop chart₀ marks₀ z c s from to count y₀ now₀ chart marks y now = to - y
+μ-loop chart₀ marks₀ z c s from to count y₀ total₀ chart marks y total = to - y
 
 loop-holds : tie.Need-loop-holds Inv-loop μ-loop
 loop-holds c = loop-start (c .before .before .pre .0)

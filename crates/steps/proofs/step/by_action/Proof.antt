@@ -1,14 +1,14 @@
--- `by_action` adds what a production's action makes of its dependents, whose positions the table has as one stretch: what the model
+-- `by_action` adds what a production's action makes of its dependents, whose positions the table has as one range: what the model
 -- makes from the list of positions is made place by place.
 use Prim.Native.Nat.{_≤_}
 use native.Mathlib.Omega.{arith}
 use mathlib.Core.Path.{refl, subst}
 use Rattle.card.specs.Productions.{actionFrom}
 use Rattle.records.specs.Room.{chartIn}
-use Rattle.records.specs.Cover.{Stretch}
+use Rattle.records.specs.Cover.{CellRange}
 use Rattle.steps.specs.Fits.{ActionFits}
 use Rattle.steps.proofs.StepLaws.{added-as}
-use Rattle.steps.proofs.StepCandidates.{to-below, range-stretch, foot-made, foot-numbered, with-index, by-take, by-keep, by-give}
+use Rattle.steps.proofs.StepCandidates.{to-below, cell-range, foot-made, foot-numbered, with-index, by-take, by-keep, by-give}
 use Rattle.steps.proofs.StepCover.{advanced-kept, advanced-as}
 use borrow.Author.Needs.{needs}
 use Rattle.steps.proofs.step.by_action.Statement.{statement}
@@ -29,18 +29,18 @@ cell-at-requires c κs = search needs
 range-of-requires : tie.Need-range-of-requires
 range-of-requires c κs = search needs
 
--- What was read from the table: a stretch of positions below the base, those of the dependent's records.
+-- What was read from the table: a range of positions below the base, those of the dependent's records.
 below : (c : tie.After-range-of) → c .range-of .result .to ≤ c .before .before .before .before .before .before .before .before .before .args .z .base
 below c =
     let s = c .before .before .before .before .before .before .before .before .before in
     to-below (s .args .chart .now) (s .args .z .base) (s .pre .2) (c .before .cell-at .result) (c .range-of .ensures)
 
-abbrev stretch : (c : tie.After-range-of) → let a = c .before .before .before .before .before .before .before .before .before .args in
+abbrev dependents : (c : tie.After-range-of) → let a = c .before .before .before .before .before .before .before .before .before .args in
     let r = c .range-of .result in
-    Stretch (a .z .words) (a .z .symbols) (chartIn (a .chart .now) (a .z .base)) (c .before .cell-at .result) (r .from) (r .to)
-stretch c =
+    CellRange (a .z .words) (a .z .symbols) (chartIn (a .chart .now) (a .z .base)) (c .before .cell-at .result) (r .from) (r .to)
+dependents c =
     let s = c .before .before .before .before .before .before .before .before .before in
-    range-stretch (s .args .chart .now) (s .args .z .base) (s .pre .2) (s .pre .4) (c .before .before .before .before .wide .ensures .0)
+    cell-range (s .args .chart .now) (s .args .z .base) (s .pre .2) (s .pre .4) (c .before .before .before .before .wide .ensures .0)
     (c .before .before .before .wide2 .ensures .0) (c .before .before .wide3 .ensures .0) (c .before .cell-at .ensures .0) (c .range-of .ensures)
 
 enum-known-a : tie.Need-enum-known-a
@@ -72,7 +72,7 @@ take-one-requires c κs =
       q .1,
       foot-made _ _ _ _ _ _ l h (q .4),
       with-index _ l,
-      foot-numbered _ _ _ _ _ _ l (stretch r .number) (c .before .before .wide4 .ensures .0) refl,
+      foot-numbered _ _ _ _ _ _ l (dependents r .number) (c .before .before .wide4 .ensures .0) refl,
     )
 
 enum-told : tie.Need-enum-told
@@ -82,7 +82,7 @@ keep-all-requires : tie.Need-keep-all-requires
 keep-all-requires c κs =
     let q = c .before .before .before .before .before .before .before .before .before .before .before .before .before .before .pre in
     let r = c .before .before .before .before .before in
-    (q .0, below r, q .1, stretch r, q .5, q .6)
+    (q .0, below r, q .1, dependents r, q .5, q .6)
 
 enum-known-a-2 : tie.Need-enum-known-a-2
 enum-known-a-2 c = search needs
@@ -104,7 +104,7 @@ returns c =
     let r = c .before .before .before .before .before .before .before .before .before .before .before in
     let q = r .before .before .before .before .before .before .before .before .before .pre in
     let t = c .before .before .before .before .before .before .before .before .before in
-    advanced-kept _ (q .5) (added-as (by-take _ _ _ _ _ _ _ _ _ (r .range-of .result) (stretch r .stands) (t .a .given .1) (taken t .0)) (c .before .before .before .before .take-one .ensures))
+    advanced-kept _ (q .5) (added-as (by-take _ _ _ _ _ _ _ _ _ (r .range-of .result) (dependents r .stands) (t .a .given .1) (taken t .0)) (c .before .before .before .before .take-one .ensures))
 
 same-length-3 : tie.Need-same-length-3
 same-length-3 c = search needs
@@ -118,7 +118,7 @@ same-length-5 c = search needs
 returns-2 : tie.Need-returns-2
 returns-2 c =
     let r = c .before .before .before .before .before .before .before .before .before .before .before .before in
-    advanced-as (by-keep _ _ _ _ _ _ _ _ _ (r .range-of .result) (stretch r .stands) (c .before .before .before .before .before .before .before .before .before .before .enum-told .given .1))
+    advanced-as (by-keep _ _ _ _ _ _ _ _ _ (r .range-of .result) (dependents r .stands) (c .before .before .before .before .before .before .before .before .before .before .enum-told .given .1))
     (c .before .before .before .before .before .before .keep-all .ensures)
 
 same-length-6 : tie.Need-same-length-6
@@ -133,7 +133,7 @@ same-length-8 c = search needs
 returns-3 : tie.Need-returns-3
 returns-3 c =
     let r = c .before .before .before .before .before .before .before .before .before .before .before .before .before in
-    advanced-as (by-give _ _ _ _ _ _ _ _ _ (r .range-of .result) (stretch r .stands) (c .before .before .before .before .before .before .before .before .before .before .before .a2 .given .1))
+    advanced-as (by-give _ _ _ _ _ _ _ _ _ (r .range-of .result) (dependents r .stands) (c .before .before .before .before .before .before .before .before .before .before .before .a2 .given .1))
     (c .before .before .before .before .before .before .give-each .ensures)
 
 pub by-action-spec : {M : Type 1} → statement M

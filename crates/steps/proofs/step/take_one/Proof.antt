@@ -1,4 +1,4 @@
--- `take_one` adds the one record of a take, from the first dependent, or none where the stretch is empty.
+-- `take_one` adds the one record of a take, from the first dependent, or none where the range is empty.
 use mathlib.Core.Path.{sym}
 use borrow.Author.Needs.{needs}
 use Rattle.steps.proofs.StepLaws.{added-none, added-as}

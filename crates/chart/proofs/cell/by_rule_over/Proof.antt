@@ -1,4 +1,4 @@
--- `cell::by_rule` meets its contract: over one word the rule adds what it does for the word, and over more what it does at the splits,
+-- `cell::by_rule_over` meets its contract: over one word the rule adds what it does for the word, and over more what it does at the splits,
 -- which are the model's own two cases.
 use native.Mathlib.Omega.{arith}
 use mathlib.Core.Path.{_∙_, ap}
@@ -12,10 +12,10 @@ use Rattle.steps.proofs.StepLaws.{added-as}
 use Rattle.steps.proofs.StepCover.{advanced-kept, advanced-as}
 use Rattle.chart.proofs.FillCells.{over-word, over-splits}
 use borrow.Author.Needs.{needs}
-use Rattle.chart.proofs.cell.by_rule.Statement.{statement}
-use Rattle.chart.proofs.cell.by_rule.Tie as tie
-use Rattle.chart.proofs.cell.by_rule.Reads as reads
-use Rattle.chart.proofs.cell.by_rule.Lts as lts
+use Rattle.chart.proofs.cell.by_rule_over.Statement.{statement}
+use Rattle.chart.proofs.cell.by_rule_over.Tie as tie
+use Rattle.chart.proofs.cell.by_rule_over.Reads as reads
+use Rattle.chart.proofs.cell.by_rule_over.Lts as lts
 use Rattle.chart.proofs.cell.across_splits.Reads as across-splits-reads
 use Rattle.chart.proofs.cell.at_word.Reads as at-word-reads
 use Rattle.chart.proofs.rules.rule_at.Reads as rule-at-reads
@@ -86,8 +86,8 @@ returns-2 c =
     (λ q. c .before .before .before .before .before .before .before .before .before .before .if1 .left (omega (arith, ends .before .wide .ensures, ends .wide2 .ensures))))
     (call .across-splits .ensures)
 
-pub by-rule-spec : {M : Type 1} → statement M
-by-rule-spec =
+pub by-rule-over-spec : {M : Type 1} → statement M
+by-rule-over-spec =
     tie.close
     (tie.spec
     wide-requires

@@ -1,15 +1,15 @@
--- `room::settle` meets its contract. The loop's invariant: the first m records are settled.
+-- `room::clear_numbers` meets its contract. The loop's invariant: the numbers of the first m records are cleared.
 use Prim.Native.Nat.{ℕ, _+_, _-_, _*_, _≤_}
 use native.Mathlib.Omega.{arith}
 use mathlib.Core.Path.{_≡_, refl, _∙_, ap}
 use lib.ListN.{length, length-set}
-use Rattle.records.specs.Room.{settled}
-use Rattle.records.proofs.SettleLaws.{settled-length, settled-more}
-use Rattle.records.proofs.room.settle.Statement.{statement}
-use Rattle.records.proofs.room.settle.Tie as tie
+use Rattle.records.specs.Room.{numbersCleared}
+use Rattle.records.proofs.NumbersCleared.{cleared-length, cleared-more}
+use Rattle.records.proofs.room.clear_numbers.Statement.{statement}
+use Rattle.records.proofs.room.clear_numbers.Tie as tie
 
 abbrev Inv-loop : tie.InvT-loop
-Inv-loop chart₀ count m₀ chart m = (m ≤ count) × (chart ≡ settled m chart₀)
+Inv-loop chart₀ count m₀ chart m = (m ≤ count) × (chart ≡ numbersCleared m chart₀)
 
 abbrev μ-loop : tie.MeasureT-loop
 μ-loop chart₀ count m₀ chart m = count - m
@@ -22,7 +22,7 @@ inside : (c : tie.In-loop Inv-loop μ-loop) → 16 * c .before .loop .m + 16 ≤
 inside c =
     let l = c .before .loop in
     let s = c .before .before in
-    omega (arith, ap length (l .inv .1), settled-length (l .m) (s .args .chart .now), s .pre, c .loop-test .taken)
+    omega (arith, ap length (l .inv .1), cleared-length (l .m) (s .args .chart .now), s .pre, c .loop-test .taken)
 
 mul-chart : tie.Need-mul-chart Inv-loop μ-loop
 mul-chart c = omega (arith, inside c)
@@ -50,19 +50,19 @@ loop-less c = omega arith
 
 loop-again : tie.Need-loop-again Inv-loop μ-loop
 loop-again c =
-    (omega arith, settled-more (c .before .loop .m) (c .before .before .args .chart .now) (c .before .loop .chart) (c .before .loop .inv .1))
+    (omega arith, cleared-more (c .before .loop .m) (c .before .before .args .chart .now) (c .before .loop .chart) (c .before .loop .inv .1))
 
 same-length : tie.Need-same-length Inv-loop μ-loop
 same-length c =
-    ap length (c .before .loop .inv .1) ∙ settled-length (c .before .loop .m) (c .before .before .args .chart .now)
+    ap length (c .before .loop .inv .1) ∙ cleared-length (c .before .loop .m) (c .before .before .args .chart .now)
 
 returns : tie.Need-returns Inv-loop μ-loop
 returns c =
     let all : c .before .loop .m ≡ c .before .before .args .count = omega arith in
-    c .before .loop .inv .1 ∙ ap (λ (m : ℕ). settled m (c .before .before .args .chart .now)) all
+    c .before .loop .inv .1 ∙ ap (λ (m : ℕ). numbersCleared m (c .before .before .args .chart .now)) all
 
-pub settle-spec : {M : Type 1} → statement M
-settle-spec =
+pub clear-numbers-spec : {M : Type 1} → statement M
+clear-numbers-spec =
     tie.close
     (tie.spec
     Inv-loop

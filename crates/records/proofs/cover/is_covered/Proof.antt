@@ -1,4 +1,4 @@
--- `cover::passes` meets its contract: no entry, the cell's own number, or one more look, each by its case of the definition; and the entry
+-- `cover::is_covered` meets its contract: no entry, the cell's own number, or one more look, each by its case of the definition; and the entry
 -- is the cell's own number, or is made so, where it is covered.
 use Prim.Native.Nat.{_+_, _-_}
 use mathlib.Core.Path.{_≡_, sym, _∙_, ap}
@@ -8,8 +8,8 @@ use borrow.Author.Tests.{eq-eqb, ne-eqb}
 use Rattle.records.specs.Cover.{reaches, coveredIn}
 use Rattle.records.proofs.CoverLaws.{reaches-none, reaches-here, reaches-there, left-as-is, noted-already, noted-now}
 use borrow.Author.Needs.{needs}
-use Rattle.records.proofs.cover.passes.Statement.{statement}
-use Rattle.records.proofs.cover.passes.Tie as tie
+use Rattle.records.proofs.cover.is_covered.Statement.{statement}
+use Rattle.records.proofs.cover.is_covered.Tie as tie
 
 mul-wide16 : tie.Need-mul-wide16
 mul-wide16 c = search needs
@@ -79,8 +79,8 @@ returns-4 c =
     let e = looked w ∙ eq-eqb _ _ (sym (w .wide162 .ensures) ∙ c .before .before .before .before .if3 .left) in
     (sym e, c .before .before .note .ensures ∙ noted-now (a .covers .now) (a .own) (a .at) e)
 
-pub passes-spec : {M : Type 1} → statement M
-passes-spec =
+pub is-covered-spec : {M : Type 1} → statement M
+is-covered-spec =
     tie.close
     (tie.spec
     mul-wide16
