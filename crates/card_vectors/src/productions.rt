@@ -1,8 +1,9 @@
-// Productions as `decode` reads them, on any bytes.
+// Productions as the readers decode them: one of the count of an accepted card. For others the reason is printed.
 use crate::cards::tomato;
 use crate::cards::with;
 use crate::print;
 use card::Action;
+use card::Card;
 use card::Production;
 
 fn act(action: Action) {
@@ -53,18 +54,34 @@ fn show(production: Production) {
     }
 }
 
+// Production m, if the card is accepted and has so many.
+fn decoded(card: &[u8], m: usize) {
+    let number = card::card_number(card);
+    if number != 0 {
+        print::text(b" refused");
+        print::field(number);
+        return;
+    }
+    let view = Card::of(card);
+    if view.productions <= m {
+        print::text(b" none");
+        return;
+    }
+    show(Card::production(card, view.production_table(), m));
+}
+
 fn production(card: [u8; 1024], length: usize, m: u8) {
     if 1024 < length {
         return;
     }
     print::number(m as u64);
-    show(card::decode(&card[..length], m));
+    decoded(&card[..length], m as usize);
     print::end_line();
 }
 
-// Production 10 of the tomato card with another kind.
-fn kind(kind: u8) {
-    production(with(tomato(), 132, kind), 138, 10);
+// Production 10 of the tomato card with another kind and index.
+fn kind(kind: u8, index: u8) {
+    production(with(with(tomato(), 132, kind), 136, index), 138, 10);
 }
 
 pub fn all() {
@@ -72,10 +89,11 @@ pub fn all() {
     let mut m: u8 = 0;
     while m < 13 {
         production(tomato(), 138, m);
-        kind(m);
+        kind(m, 2);
+        kind(m, 0);
         m += 1;
     }
-    kind(255);
+    kind(255, 2);
     production(tomato(), 138, 255);
     production(tomato(), 135, 10);
     production(tomato(), 5, 0);

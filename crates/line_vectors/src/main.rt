@@ -1,10 +1,9 @@
 // Prints what `accept` answers for stored lines over the tomato card, and for cards that are refused: the number, the count of words
-// and the 24 bytes of their numbers. The file `stdout` was computed from the document's text by other means.
+// and the set of the words at each of the 24 places. The file `stdout` was computed from the document's text by other means.
 use line::Accepted;
-use line::MOST_WORDS;
 use line::accept;
-ghost use Prim.Native.Nat.{_≤_};
-ghost use lib.ListN.{length};
+use places::MOST_WORDS;
+use split::line_end;
 
 // Header; words; productions that are a word, that give and that take.
 const TOMATO: [u8; 138] = *b"LIG1\x06\x05\x02\x0b\x0c\0\x48\0\
@@ -27,29 +26,15 @@ fn end_line() {
 }
 
 fn print(r: Accepted) {
-    let words = r.words;
+    let places = r.places;
     io::print_decimal(1, r.number);
     print_next(r.count as u64);
     let mut i = 0;
     while i < MOST_WORDS {
-        print_next(words[i] as u64);
+        print_next(places[i] as u64);
         i += 1;
     }
     end_line();
-}
-
-fn line_end(text: &[u8], at: usize) -> usize
-    requires { ⌜ at ≤ length (now text) ⌝ }
-    ensures { λ r. ⌜ (at ≤ r) × (r ≤ length (now (text .entry))) ⌝ }
-{
-    let mut i = at;
-    while i < text.len() {
-        if text[i] == b'\n' {
-            return i;
-        }
-        i += 1;
-    }
-    i
 }
 
 // The lines of a text, each ended by hex 0A, over the tomato card.

@@ -6,10 +6,10 @@ use Rattle.line_vectors.proofs.print.Statement.{statement}
 use Rattle.line_vectors.proofs.print.Tie as tie
 
 abbrev Inv-loop : tie.InvT-loop
-Inv-loop words i₀ i = i ≤ 24
+Inv-loop places i₀ i = i ≤ 24
 
 abbrev μ-loop : tie.MeasureT-loop
-μ-loop words i₀ i = 24 - i
+μ-loop places i₀ i = 24 - i
 
 print-decimal-requires : tie.Need-print-decimal-requires Inv-loop μ-loop
 print-decimal-requires c κs = search needs
@@ -19,6 +19,9 @@ print-next-requires c κs = search needs
 
 loop-holds : tie.Need-loop-holds Inv-loop μ-loop
 loop-holds c = search needs
+
+mul-print-next : tie.Need-mul-print-next Inv-loop μ-loop
+mul-print-next c = search needs
 
 array-read-print-next : tie.Need-array-read-print-next Inv-loop μ-loop
 array-read-print-next c = search needs
@@ -53,6 +56,7 @@ print-spec =
     print-decimal-requires
     print-next-requires
     loop-holds
+    mul-print-next
     array-read-print-next
     cast-print-next
     print-next-requires-2

@@ -29,6 +29,9 @@ production-requires c κs = search needs
 kind-requires : tie.Need-kind-requires Inv-loop μ-loop
 kind-requires c κs = search needs
 
+kind-requires-2 : tie.Need-kind-requires-2 Inv-loop μ-loop
+kind-requires-2 c κs = search needs
+
 add-m : tie.Need-add-m Inv-loop μ-loop
 add-m c = search needs
 
@@ -38,8 +41,8 @@ loop-less c = search needs
 loop-again : tie.Need-loop-again Inv-loop μ-loop
 loop-again c = search needs
 
-kind-requires-2 : tie.Need-kind-requires-2 Inv-loop μ-loop
-kind-requires-2 c κs = search needs
+kind-requires-3 : tie.Need-kind-requires-3 Inv-loop μ-loop
+kind-requires-3 c κs = search needs
 
 tomato-requires-2 : tie.Need-tomato-requires-2 Inv-loop μ-loop
 tomato-requires-2 c κs = search needs
@@ -89,10 +92,11 @@ all-spec =
     tomato-requires
     production-requires
     kind-requires
+    kind-requires-2
     add-m
     loop-less
     loop-again
-    kind-requires-2
+    kind-requires-3
     tomato-requires-2
     production-requires-2
     tomato-requires-3

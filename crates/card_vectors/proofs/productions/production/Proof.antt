@@ -1,8 +1,7 @@
 -- `productions::production`: the bytes lent are as many as asked for, since the room has at least so many.
--- Nothing else is asked: the card's functions take any bytes.
 use native.Mathlib.Omega.{arith}
-use borrow.Author.Needs.{needs}
 use lib.ListN.{length-take}
+use borrow.Author.Needs.{needs}
 use Rattle.card_vectors.proofs.productions.production.Statement.{statement}
 use Rattle.card_vectors.proofs.productions.production.Tie as tie
 
@@ -15,14 +14,11 @@ number-requires c κs = search needs
 array-share-prefix-card : tie.Need-array-share-prefix-card
 array-share-prefix-card c = search needs
 
-slice-aggregate-decode : tie.Need-slice-aggregate-decode
-slice-aggregate-decode c = simp length-take (omega arith)
+slice-aggregate-decoded : tie.Need-slice-aggregate-decoded
+slice-aggregate-decoded c = simp length-take (omega arith)
 
-decode-requires : tie.Need-decode-requires
-decode-requires c κs = search needs
-
-show-requires : tie.Need-show-requires
-show-requires c κs = search needs
+decoded-requires : tie.Need-decoded-requires
+decoded-requires c κs = search needs
 
 end-line-requires : tie.Need-end-line-requires
 end-line-requires c κs = search needs
@@ -37,8 +33,7 @@ production-spec =
     returns
     number-requires
     array-share-prefix-card
-    slice-aggregate-decode
-    decode-requires
-    show-requires
+    slice-aggregate-decoded
+    decoded-requires
     end-line-requires
     returns-2)
