@@ -1,7 +1,7 @@
 // The five calls for C (document 01, "Check, pairs, name"): numbers and byte slices in, each answer packed in one u64.
 use card::Card;
-use card::bytes::byte;
-use card::bytes::wide;
+use octets::byte;
+use octets::wide;
 ghost use mathlib.Core.Path.{_≡_};
 ghost use Prim.Native.Nat.{_≤_, _<_};
 ghost use Rattle.layout.specs.Card.{cardNumber};
@@ -28,7 +28,8 @@ pub extern "C" fn lig_card_check(card: &[u8]) -> u64
 
 #[no_mangle]
 pub extern "C" fn lig_read(card: &[u8], line: &[u8], chart: &mut [u8], plan: &mut [u8]) -> u64
-    ensures { λ r. ⌜ ReadPacked (now (card .entry)) (now (line .entry)) (now (chart .entry)) (now (plan .entry)) (now (chart .exit)) (now (plan .exit)) r ⌝ }
+    ensures { λ r. ⌜ ReadPacked (now (card .entry)) (now (line .entry))
+        (now (chart .entry)) (now (plan .entry)) (now (chart .exit)) (now (plan .exit)) r ⌝ }
 {
     let a = reader::read::read(card, line, chart, plan);
     pack(a.number, a.words, a.items, a.steps)
@@ -58,6 +59,6 @@ pub extern "C" fn lig_name(card: &[u8], word: usize) -> u64
     if number != 0 {
         return number;
     }
-    let at = Card::entry_at(word);
+    let at = Card::of(card).entry_at(word);
     pack(0, at + 1, wide(byte(card, at)), 0)
 }

@@ -5,16 +5,18 @@ use mathlib.Core.Path.{_≡_, refl, sym, _∙_, ap, subst}
 use mathlib.Core.Bool.{Bool, true, false}
 use mathlib.Core.List.{List}
 use lib.Dec.{eqb}
-use lib.ListN.{length, take}
+use lib.ListN.{length}
 use borrow.Author.Tests.{ne-eqb}
 use Rattle.layout.specs.Card.{cardNumber}
-use Rattle.layout.specs.Line.{numbersOf}
 use Rattle.layout.specs.Steps.{planRoom}
-use Rattle.layout.specs.Answers.{inputNumber, wordsIn, derivable, ReadAnswer, refusal, found, readAnswer, ChartState, chartState, ChartAfter, PlanAfter}
-use Rattle.layout.proofs.Reading.{startFound, read-derivation, no-reading, derivation-read}
+use Rattle.layout.specs.Answers.{inputNumber, wordsIn, lineTest, derivable, startFound, ReadAnswer, refusal, found, readAnswer}
+use Rattle.layout.specs.Answers.{ChartState, chartState, ChartAfter, PlanAfter}
+use Rattle.layout.proofs.Accepting.{accepted-line, input-small, input-of-card}
+use Rattle.layout.proofs.Reading.{read-derivation, no-reading, derivation-read}
 use Rattle.line.specs.declared.Accepted.{Accepted}
 use Rattle.line.specs.Accepted.{Accepts}
-use Rattle.line.proofs.AcceptedLaws.{accepted-line, answered-line}
+use Rattle.places.specs.Places.{wordTest}
+use Rattle.line.proofs.AcceptedLaws.{answered-number, answered-line, answered-count, answered-test}
 use Rattle.chart.specs.declared.Built.{Built}
 use Rattle.chart.specs.declared.Built.the-variants.{Chart, TooMany}
 use Rattle.chart.specs.Built.{BuiltRoom}
@@ -24,8 +26,8 @@ use Rattle.unfold.specs.declared.Start.the-variants.{At, Missing}
 use Rattle.reader.specs.declared.read.Answer.{Answer}
 use Rattle.reader.specs.Read.{answerFrom, Reads}
 use Rattle.reader.specs.Ended.{Refuses, Charted, isThere, RoomAfter, PlanOf}
-use Rattle.reader.proofs.Accepting.{input-zero, count-is, count-within, words-taken}
-use Rattle.reader.proofs.Answers.{answer-refused, answer-short, answer-over, answer-found, input-small, no-chart}
+use Rattle.reader.proofs.Accepting.{count-within}
+use Rattle.reader.proofs.Answers.{answer-refused, answer-short, answer-over, answer-found, no-chart}
 use Rattle.reader.proofs.Starts.{held, counts-items, items-fit, start-there, start-missing}
 
 -- The answer is a, and the rooms are as its number says.
@@ -48,7 +50,7 @@ reads {card} {line} {oldChart} {oldPlan} {newChart} {newPlan} {r} a same due cha
 -- With the chart in its room.
 module _ (card line oldChart oldPlan newChart newPlan : List ℕ) (r : Answer) (count : ℕ) (input : inputNumber card line ≡ 0)
     (enough : planRoom (wordsIn line) ≤ length oldPlan)
-    (built : BuiltRoom card (numbersOf card line) (wordsIn line) (Chart count) oldChart newChart) where
+    (built : BuiltRoom card (lineTest card line) (wordsIn line) (Chart count) oldChart newChart) where
   card-accepted : cardNumber card ≡ 0
   card-accepted = accepted-line card line input .card-accepted
 
@@ -62,7 +64,7 @@ module _ (card line oldChart oldPlan newChart newPlan : List ℕ) (r : Answer) (
 
   found-ends : (start : Start) → Found newChart count (wordsIn line) start
       → answerFrom r ≡ found (isThere start) (wordsIn line) count
-      → RoomAfter card (numbersOf card line) (wordsIn line) start oldPlan newPlan
+      → RoomAfter card (lineTest card line) (wordsIn line) start oldPlan newPlan
       → Reads card line oldChart oldPlan newChart newPlan r
   found-ends (At m) f e plan =
       reads (found true (wordsIn line) count) e
@@ -73,47 +75,57 @@ module _ (card line oldChart oldPlan newChart newPlan : List ℕ) (r : Answer) (
       (answer-due false (start-missing card line oldChart newChart count card-accepted built f))
       (built .0, built .1, built .4) plan
 
+-- A refusal of card or line.
+pub ends-input : (card line oldChart oldPlan : List ℕ) {number : ℕ} {r : Answer} → number ≡ inputNumber card line → (number ≡ 0 → ⊥)
+    → Refuses number r → Reads card line oldChart oldPlan oldChart oldPlan r
+ends-input card line oldChart oldPlan same h e =
+    let number = inputNumber card line in
+    let other : number ≡ 0 → ⊥ = λ z. h (same ∙ z) in
+    reads (refusal number) (e ∙ ap refusal same) (answer-refused card line (length oldChart) (length oldPlan) other)
+    (subst (λ (t : ChartState). ChartAfter card line t oldChart oldChart) (sym (no-chart number other (input-small card line))) refl)
+    (subst (λ (t : Bool). PlanAfter card line t oldPlan oldPlan) (sym (ne-eqb number 0 other)) refl)
+
+pub ends-card : (card line oldChart oldPlan : List ℕ) {number : ℕ} {r : Answer} → number ≡ cardNumber card → (number ≡ 0 → ⊥)
+    → Refuses number r → Reads card line oldChart oldPlan oldChart oldPlan r
+ends-card card line oldChart oldPlan same h e =
+    ends-input card line oldChart oldPlan (same ∙ sym (input-of-card card line λ z. h (same ∙ z))) h e
+
 module _ (card line oldChart oldPlan : List ℕ) (s : Accepted) (x : Accepts card line s) where
   pub ends-refused : {r : Answer} → (s .number ≡ 0 → ⊥) → Refuses (s .number) r
       → Reads card line oldChart oldPlan oldChart oldPlan r
-  ends-refused h e =
-      let number = inputNumber card line in
-      let other : number ≡ 0 → ⊥ = λ z. h (x .number ∙ z) in
-      reads (refusal number) (e ∙ ap refusal (x .number)) (answer-refused card line (length oldChart) (length oldPlan) other)
-      (subst (λ (t : ChartState). ChartAfter card line t oldChart oldChart) (sym (no-chart number other (input-small card line))) refl)
-      (subst (λ (t : Bool). PlanAfter card line t oldPlan oldPlan) (sym (ne-eqb number 0 other)) refl)
+  ends-refused h e = ends-input card line oldChart oldPlan (x .number) h e
 
   module _ (accepted : s .number ≡ 0) where
     pub ends-short : {r : Answer} → length oldPlan < planRoom (s .count) → Refuses 32 r
         → Reads card line oldChart oldPlan oldChart oldPlan r
     ends-short h e =
         reads (refusal 32) e
-        (answer-short card line (length oldChart) (length oldPlan) (input-zero x accepted)
-        (subst (λ (n : ℕ). length oldPlan < planRoom n) (count-is x accepted) h))
+        (answer-short card line (length oldChart) (length oldPlan) (answered-number x accepted)
+        (subst (λ (n : ℕ). length oldPlan < planRoom n) (answered-count x accepted) h))
         refl refl
 
     module _ (newChart : List ℕ) (enough : planRoom (s .count) ≤ length oldPlan) where
-      line-built : (b b′ : Built) → b ≡ b′ → BuiltRoom card (take (s .count) (s .words)) (s .count) b oldChart newChart
-          → BuiltRoom card (numbersOf card line) (wordsIn line) b′ oldChart newChart
+      line-built : (b b′ : Built) → b ≡ b′ → BuiltRoom card (wordTest (s .places)) (s .count) b oldChart newChart
+          → BuiltRoom card (lineTest card line) (wordsIn line) b′ oldChart newChart
       line-built b b′ e made =
-          subst (λ (t : Built). BuiltRoom card (numbersOf card line) (wordsIn line) t oldChart newChart) e
-          (subst (λ (n : ℕ). BuiltRoom card (numbersOf card line) n b oldChart newChart) (count-is x accepted)
-          (subst (λ (words : List ℕ). BuiltRoom card words (s .count) b oldChart newChart) (words-taken x accepted) made))
+          subst (λ (t : Built). BuiltRoom card (lineTest card line) (wordsIn line) t oldChart newChart) e
+          (subst (λ (n : ℕ). BuiltRoom card (lineTest card line) n b oldChart newChart) (answered-count x accepted)
+          (subst (λ (test : ℕ → ℕ → Bool). BuiltRoom card test (s .count) b oldChart newChart) (answered-test x accepted) made))
 
       room-enough : planRoom (wordsIn line) ≤ length oldPlan
-      room-enough = subst (λ (n : ℕ). planRoom n ≤ length oldPlan) (count-is x accepted) enough
+      room-enough = subst (λ (n : ℕ). planRoom n ≤ length oldPlan) (answered-count x accepted) enough
 
       pub ends-over : {r : Answer} (b : Built) → b ≡ TooMany
-          → BuiltRoom card (take (s .count) (s .words)) (s .count) b oldChart newChart → Refuses 31 r
+          → BuiltRoom card (wordTest (s .places)) (s .count) b oldChart newChart → Refuses 31 r
           → Reads card line oldChart oldPlan newChart oldPlan r
       ends-over b over made e =
           let (more, zeros) = line-built b TooMany over made in
           reads (refusal 31) e
-          (answer-over card line (length oldChart) (length oldPlan) (input-zero x accepted) room-enough more) zeros refl
+          (answer-over card line (length oldChart) (length oldPlan) (answered-number x accepted) room-enough more) zeros refl
 
       module _ (b : Built) (count : ℕ) (fits : b ≡ Chart count)
-          (made : BuiltRoom card (take (s .count) (s .words)) (s .count) b oldChart newChart) where
-        chart-held : Held card (numbersOf card line) newChart count
+          (made : BuiltRoom card (wordTest (s .places)) (s .count) b oldChart newChart) where
+        chart-held : Held card (lineTest card line) newChart count
         chart-held =
             held card line oldChart newChart count (answered-line x accepted .card-accepted) (line-built b (Chart count) fits made)
 
@@ -121,7 +133,7 @@ module _ (card line oldChart oldPlan : List ℕ) (s : Accepted) (x : Accepts car
         charted =
             record {
               accepted = answered-line x accepted .card-accepted;
-              words = numbersOf card line;
+              at = lineTest card line;
               held = chart-held;
               some-words = count-within x accepted .0;
               short = count-within x accepted .1;
@@ -131,6 +143,6 @@ module _ (card line oldChart oldPlan : List ℕ) (s : Accepted) (x : Accepts car
         pub ends-found : {newPlan : List ℕ} {r : Answer} → PlanOf card newChart (s .count) count oldPlan newPlan r
             → Reads card line oldChart oldPlan newChart newPlan r
         ends-found {newPlan} {r} p =
-            let q = subst (λ (n : ℕ). PlanOf card newChart n count oldPlan newPlan r) (count-is x accepted) p in
-            found-ends card line oldChart oldPlan newChart newPlan r count (input-zero x accepted) room-enough
-            (line-built b (Chart count) fits made) (q .start) (q .searched) (q .answer) (q .plan (numbersOf card line) chart-held)
+            let q = subst (λ (n : ℕ). PlanOf card newChart n count oldPlan newPlan r) (answered-count x accepted) p in
+            found-ends card line oldChart oldPlan newChart newPlan r count (answered-number x accepted) room-enough
+            (line-built b (Chart count) fits made) (q .start) (q .searched) (q .answer) (q .plan (lineTest card line) chart-held)

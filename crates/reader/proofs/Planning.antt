@@ -3,7 +3,7 @@
 use Prim.Native.Nat.{ℕ, _*_, _-_}
 use mathlib.Core.Path.{_≡_, refl, subst}
 use mathlib.Core.List.{List}
-use Rattle.unfold.specs.Unfold.{Held, Unfoldable, Planned, Found}
+use Rattle.unfold.specs.Unfold.{Unfoldable, Plans, Found}
 use Rattle.unfold.specs.declared.Start.{Start}
 use Rattle.unfold.specs.declared.Start.the-variants.{At, Missing}
 use Rattle.reader.specs.Ended.{Charted, PlanOf}
@@ -12,10 +12,10 @@ module _ {card chart : List ℕ} {n count : ℕ} {start : Start} (searched : Fou
   pub start-asked : {plan : List ℕ} {m : ℕ} → Charted card chart n count plan → start ≡ At m → Unfoldable card chart count m n plan
   start-asked h e =
       let f = subst (Found chart count n) e searched in
-      record { accepted = h .accepted; words = h .words; held = h .held; inside = f .0; whole = f .1; room = h .room; short = h .short }
+      record { accepted = h .accepted; at = h .at; held = h .held; inside = f .0; whole = f .1; room = h .room; short = h .short }
 
   pub start-planned : {old new : List ℕ} {m : ℕ} → start ≡ At m
-      → ((words : List ℕ) → Held card words chart count → Planned card words n old new)
+      → Plans card chart count n old new
       → PlanOf card chart n count old new (record { number = 0; words = n; items = count; steps = 2 * n - 1 })
   start-planned {m = m} e plan =
       record { start = At m; searched = subst (Found chart count n) e searched; answer = refl; plan = plan }
@@ -23,4 +23,4 @@ module _ {card chart : List ℕ} {n count : ℕ} {start : Start} (searched : Fou
   pub no-start : {plan : List ℕ} → start ≡ Missing
       → PlanOf card chart n count plan plan (record { number = 25; words = n; items = count; steps = 0 })
   no-start e =
-      record { start = Missing; searched = subst (Found chart count n) e searched; answer = refl; plan = λ words held. refl }
+      record { start = Missing; searched = subst (Found chart count n) e searched; answer = refl; plan = λ at held. refl }

@@ -14,10 +14,9 @@ use Rattle.grammar.specs.Chart.{Record, Justified, itemOf}
 use Rattle.grammar.proofs.ItemListExact.{items-sound, items-complete, among-true, among-mem}
 use Rattle.grammar.proofs.Unfolding.{justified-derived}
 use Rattle.layout.specs.Card.{cardNumber, grammarOf}
-use Rattle.layout.specs.Line.{numbersOf}
 use Rattle.layout.specs.Records.{chartBytes, recordAt, chartIn, capacity}
-use Rattle.layout.specs.Answers.{wordsIn, lineTest, derivable}
-use Rattle.layout.proofs.Reading.{line-below, startFound}
+use Rattle.layout.specs.Answers.{wordsIn, lineTest, derivable, startFound}
+use Rattle.layout.proofs.Reading.{line-below}
 use Rattle.layout.proofs.Charts.{chart-count}
 use Rattle.chart.specs.declared.Built.the-variants.{Chart}
 use Rattle.chart.specs.Built.{BuiltRoom}
@@ -29,13 +28,13 @@ use Rattle.reader.proofs.Feet.{chart-feet}
 use Rattle.reader.proofs.ReadBack.{chart-back}
 
 module _ (card line old new : List ℕ) (count : ℕ) (accepted : cardNumber card ≡ 0)
-    (built : BuiltRoom card (numbersOf card line) (wordsIn line) (Chart count) old new) where
+    (built : BuiltRoom card (lineTest card line) (wordsIn line) (Chart count) old new) where
   room-read : chartIn new count ≡ built .0
   room-read =
       ap₂ chartIn (built .4) (built .2)
       ∙ chart-back (built .0) (drop (16 * length (built .0)) old) (chart-feet card accepted (built .0) (built .1 .justified))
 
-  pub held : Held card (numbersOf card line) new count
+  pub held : Held card (lineTest card line) new count
   held =
       record {
         there =
@@ -46,7 +45,6 @@ module _ (card line old new : List ℕ) (count : ℕ) (accepted : cardNumber car
               chart-bytes-length (built .0),
               built .2,
             );
-        few = omega (arith, built .2, built .3);
         justified =
             subst
             (λ (c : List Record). (m : ℕ) (e : Record) → Stands c m e

@@ -17,11 +17,11 @@ use Rattle.reader.specs.declared.read.Answer.{Answer}
 abbrev pub Refuses : ℕ → Answer → Type 0
 Refuses number r = answerFrom r ≡ refusal number
 
--- The card is accepted, the first count records of the room are justified for some words, and a plan of n words has room.
+-- The card is accepted, the first count records of the room are justified for the line of some test, and a plan of n words has room.
 pub record Charted (card chart : List ℕ) (n count : ℕ) (plan : List ℕ) : Type 0 where
   pub accepted : cardNumber card ≡ 0
-  pub words : List ℕ
-  pub held : Held card words chart count
+  pub at : ℕ → ℕ → Bool
+  pub held : Held card at chart count
   pub some-words : 1 ≤ n
   pub short : n ≤ 24
   pub room : planRoom n ≤ length plan
@@ -30,13 +30,13 @@ abbrev pub isThere : Start → Bool
 isThere (At m) = true
 isThere Missing = false
 
-abbrev pub RoomAfter : List ℕ → List ℕ → ℕ → Start → List ℕ → List ℕ → Type 0
-RoomAfter card words n (At m) old new = Planned card words n old new
-RoomAfter card words n Missing old new = new ≡ old
+abbrev pub RoomAfter : List ℕ → (ℕ → ℕ → Bool) → ℕ → Start → List ℕ → List ℕ → Type 0
+RoomAfter card at n (At m) old new = Planned card at n old new
+RoomAfter card at n Missing old new = new ≡ old
 
--- Whatever words the records are justified for, the plan is one of them.
+-- Whatever test the records are justified for, the plan is one of its line.
 pub record PlanOf (card chart : List ℕ) (n count : ℕ) (old new : List ℕ) (r : Answer) : Type 0 where
   pub start : Start
   pub searched : Found chart count n start
   pub answer : answerFrom r ≡ found (isThere start) n count
-  pub plan : (words : List ℕ) → Held card words chart count → RoomAfter card words n start old new
+  pub plan : (at : ℕ → ℕ → Bool) → Held card at chart count → RoomAfter card at n start old new

@@ -1,6 +1,8 @@
 // One line: accepted or refused, its chart, and its plan.
 use chart::Built;
 use unfold::Start;
+ghost use mathlib.Core.Path.{_≡_};
+ghost use Rattle.layout.specs.Card.{cardNumber};
 ghost use Rattle.reader.specs.Read.{Reads};
 ghost use Rattle.reader.specs.Ended.{Refuses, Charted, PlanOf};
 
@@ -48,22 +50,37 @@ fn plan_of(card: &[u8], n: usize, count: usize, chart: &[u8], plan: &mut [u8]) -
     }
 }
 
-pub fn read(card: &[u8], line: &[u8], chart: &mut [u8], plan: &mut [u8]) -> Answer
-    ensures { λ r. ⌜ Reads (now (card .entry)) (now (line .entry)) (now (chart .entry)) (now (plan .entry)) (now (chart .exit)) (now (plan .exit)) r ⌝ }
+// One line under an accepted card.
+pub fn read_line(card: &[u8], line: &[u8], chart: &mut [u8], plan: &mut [u8]) -> Answer
+    requires { ⌜ cardNumber (now card) ≡ 0 ⌝ }
+    ensures { λ r. ⌜ Reads (now (card .entry)) (now (line .entry))
+        (now (chart .entry)) (now (plan .entry)) (now (chart .exit)) (now (plan .exit)) r ⌝ }
 {
-    let a = line::accept(card, line);
+    let a = line::accept_line(card, line);
     let number = a.number;
     if number != 0 {
         return refusal(number);
     }
     let n = a.count;
-    let words = a.words;
+    let places = a.places;
     if plan.len() < 4 * (2 * n - 1) {
         return refusal(32);
     }
-    let built = chart::build_chart(card, &words, n, chart);
+    let built = chart::build_chart(card, &places, n, chart);
     match built {
         Built::Chart(count) => plan_of(card, n, count, chart, plan),
         Built::TooMany => refusal(31),
     }
+}
+
+// The card's refusals, and then the line.
+pub fn read(card: &[u8], line: &[u8], chart: &mut [u8], plan: &mut [u8]) -> Answer
+    ensures { λ r. ⌜ Reads (now (card .entry)) (now (line .entry))
+        (now (chart .entry)) (now (plan .entry)) (now (chart .exit)) (now (plan .exit)) r ⌝ }
+{
+    let number = card::card_number(card);
+    if number != 0 {
+        return refusal(number);
+    }
+    read_line(card, line, chart, plan)
 }

@@ -5,11 +5,11 @@ use denote.Ref.{now}
 use borrow.Author.Needs.{needs}
 use Rattle.reader.proofs.Accepting.{count-within, buildable}
 use Rattle.reader.proofs.Ends.{ends-refused, ends-short, ends-over, charted, ends-found}
-use Rattle.reader.proofs.read.read.Statement.{statement}
-use Rattle.reader.proofs.read.read.Tie as tie
+use Rattle.reader.proofs.read.read_line.Statement.{statement}
+use Rattle.reader.proofs.read.read_line.Tie as tie
 
-accept-requires : tie.Need-accept-requires
-accept-requires c κs = search needs
+accept-line-requires : tie.Need-accept-line-requires
+accept-line-requires c κs = search needs
 
 refusal-requires : tie.Need-refusal-requires
 refusal-requires c κs = search needs
@@ -18,17 +18,17 @@ returns : tie.Need-returns
 returns c =
     let answered = c .before .before in
     let a = answered .before .before .before .before .before .args in
-    ends-refused (now (a .card)) (now (a .line)) (now (a .chart)) (now (a .plan)) (answered .accept .result) (answered .accept .ensures)
+    ends-refused (now (a .card)) (now (a .line)) (now (a .chart)) (now (a .plan)) (answered .accept-line .result) (answered .accept-line .ensures)
     (c .before .if1 .taken) (c .refusal .ensures)
 
 mul-if2 : tie.Need-mul-if2
-mul-if2 c = omega (arith, count-within (c .before .before .accept .ensures) (c .before .if1 .left))
+mul-if2 c = omega (arith, count-within (c .before .before .accept-line .ensures) (c .before .if1 .left))
 
 sub-if2 : tie.Need-sub-if2
-sub-if2 c = omega (arith, count-within (c .before .before .accept .ensures) (c .before .if1 .left))
+sub-if2 c = omega (arith, count-within (c .before .before .accept-line .ensures) (c .before .if1 .left))
 
 mul-if2-2 : tie.Need-mul-if2-2
-mul-if2-2 c = omega (arith, count-within (c .before .before .accept .ensures) (c .before .if1 .left))
+mul-if2-2 c = omega (arith, count-within (c .before .before .accept-line .ensures) (c .before .if1 .left))
 
 refusal-requires-2 : tie.Need-refusal-requires-2
 refusal-requires-2 c κs = search needs
@@ -38,14 +38,14 @@ returns-2 c =
     let accepted = c .before .before .before in
     let answered = accepted .before in
     let a = answered .before .before .before .before .before .args in
-    ends-short (now (a .card)) (now (a .line)) (now (a .chart)) (now (a .plan)) (answered .accept .result) (answered .accept .ensures)
+    ends-short (now (a .card)) (now (a .line)) (now (a .chart)) (now (a .plan)) (answered .accept-line .result) (answered .accept-line .ensures)
     (accepted .if1 .left) (omega (arith, c .before .if2 .taken)) (c .refusal2 .ensures)
 
 build-chart-requires : tie.Need-build-chart-requires
 build-chart-requires c κs =
     let accepted = c .before .before .before .before in
-    let answer = accepted .before .accept .ensures in
-    buildable answer (accepted .if1 .left) _ (omega (arith, count-within answer (accepted .if1 .left)))
+    let answer = accepted .before .accept-line .ensures in
+    buildable answer (accepted .if1 .left)
 
 enum-known-built : tie.Need-enum-known-built
 enum-known-built c = search needs
@@ -57,7 +57,7 @@ plan-of-requires c κs =
     let accepted = roomy .before .before in
     let answered = accepted .before in
     let a = answered .before .before .before .before .before .args in
-    charted (now (a .card)) (now (a .line)) (now (a .chart)) (now (a .plan)) (answered .accept .result) (answered .accept .ensures)
+    charted (now (a .card)) (now (a .line)) (now (a .chart)) (now (a .plan)) (answered .accept-line .result) (answered .accept-line .ensures)
     (accepted .if1 .left) _ (roomy .if2 .left) (built .build-chart .result) (c .before .before .before .built .given .0 .0)
     (c .before .before .before .built .given .1) (built .build-chart .ensures)
 
@@ -80,7 +80,7 @@ returns-3 c =
     let accepted = roomy .before .before in
     let answered = accepted .before in
     let a = answered .before .before .before .before .before .args in
-    ends-found (now (a .card)) (now (a .line)) (now (a .chart)) (now (a .plan)) (answered .accept .result) (answered .accept .ensures)
+    ends-found (now (a .card)) (now (a .line)) (now (a .chart)) (now (a .plan)) (answered .accept-line .result) (answered .accept-line .ensures)
     (accepted .if1 .left) _ (roomy .if2 .left) (built .build-chart .result) (c .before .before .before .before .before .before .built .given .0 .0)
     (c .before .before .before .before .before .before .built .given .1) (built .build-chart .ensures) (c .before .before .plan-of .ensures)
 
@@ -94,15 +94,15 @@ returns-4 c =
     let accepted = roomy .before .before in
     let answered = accepted .before in
     let a = answered .before .before .before .before .before .args in
-    ends-over (now (a .card)) (now (a .line)) (now (a .chart)) (now (a .plan)) (answered .accept .result) (answered .accept .ensures)
+    ends-over (now (a .card)) (now (a .line)) (now (a .chart)) (now (a .plan)) (answered .accept-line .result) (answered .accept-line .ensures)
     (accepted .if1 .left) _ (roomy .if2 .left) (built .build-chart .result) (c .before .enum-told .given .1)
     (built .build-chart .ensures) (c .refusal3 .ensures)
 
-pub read-spec : {M : Type 1} → statement M
-read-spec =
+pub read-line-spec : {M : Type 1} → statement M
+read-line-spec =
     tie.close
     (tie.spec
-    accept-requires
+    accept-line-requires
     refusal-requires
     returns
     mul-if2
