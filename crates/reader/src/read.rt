@@ -78,9 +78,9 @@ pub fn read(card: &[u8], line: &[u8], chart: &mut [u8], plan: &mut [u8]) -> Answ
     ensures { λ r. ⌜ Reads (now (card .entry)) (now (line .entry))
         (now (chart .entry)) (now (plan .entry)) (now (chart .exit)) (now (plan .exit)) r ⌝ }
 {
-    let number = card::card_number(card);
-    if number != 0 {
-        return refusal(number);
+    let refused = card::card_number(card);
+    if refused != 0 {
+        return refusal(refused);
     }
     read_line(card, line, chart, plan)
 }
