@@ -16,7 +16,7 @@ use Rattle.layout.specs.Card.{markFits, countsFit, lengthsFit, entryFits, entri
 use Rattle.layout.specs.Refusals.{unless}
 use Rattle.layout.specs.Answers.{nameNumber, namePart}
 use Rattle.layout.proofs.TestLaws.{both, limits, below-all}
-use Rattle.layout.proofs.RefusalLaws.{accepts, holding, failing, answers-first}
+use Rattle.layout.proofs.RefusalLaws.{accepts, holding, failing, decides-first}
 use Rattle.layout.proofs.Accepting.{accepted-card, accepted-counts, entry-inside, name-of-card, name-of-word, name-accepts}
 use Rattle.card.specs.declared.Card.{Card}
 use Rattle.card.specs.View.{ViewOf, countsWithin, entryPlace, tablePlace, productionPlace}
@@ -82,32 +82,32 @@ module _ (card : List ℕ) where
 
 -- A number is given where its test is the first that does not hold.
 pub number-11 : (card : List ℕ) → markFits card ≡ false → 11 ≡ cardNumber card
-number-11 card h = answers-first (cardRefusals card) (failing h)
+number-11 card h = decides-first (cardRefusals card) (failing h)
 
 module _ (card : List ℕ) (marked : markFits card ≡ true) where
   pub number-12 : countsFit card ≡ false → 12 ≡ cardNumber card
-  number-12 h = answers-first (cardRefusals card) (holding marked (failing h))
+  number-12 h = decides-first (cardRefusals card) (holding marked (failing h))
 
   module _ (counted : countsFit card ≡ true) where
     pub number-13 : lengthsFit card ≡ false → 13 ≡ cardNumber card
-    number-13 h = answers-first (cardRefusals card) (holding marked (holding counted (failing h)))
+    number-13 h = decides-first (cardRefusals card) (holding marked (holding counted (failing h)))
 
     module _ (measured : lengthsFit card ≡ true) where
       pub number-14 : entriesFit card ≡ false → 14 ≡ cardNumber card
-      number-14 h = answers-first (cardRefusals card) (holding marked (holding counted (holding measured (failing h))))
+      number-14 h = decides-first (cardRefusals card) (holding marked (holding counted (holding measured (failing h))))
 
       module _ (fit : entriesFit card ≡ true) where
         pub number-15 : entriesDiffer card ≡ false → 15 ≡ cardNumber card
-        number-15 h = answers-first (cardRefusals card) (holding marked (holding counted (holding measured (holding fit (failing h)))))
+        number-15 h = decides-first (cardRefusals card) (holding marked (holding counted (holding measured (holding fit (failing h)))))
 
         module _ (differ : entriesDiffer card ≡ true) where
           pub number-16 : productionsFit card ≡ false → 16 ≡ cardNumber card
           number-16 h =
-              answers-first (cardRefusals card) (holding marked (holding counted (holding measured (holding fit (holding differ (failing h))))))
+              decides-first (cardRefusals card) (holding marked (holding counted (holding measured (holding fit (holding differ (failing h))))))
 
           pub number-0 : productionsFit card ≡ true → 0 ≡ cardNumber card
           number-0 h =
-              answers-first (cardRefusals card)
+              decides-first (cardRefusals card)
               (holding marked (holding counted (holding measured (holding fit (holding differ (holding h accepts))))))
 
 -- A word that Name answers with 0.
@@ -137,11 +137,11 @@ module _ (card : List ℕ) (word number : ℕ) (same : number ≡ cardNumber car
   module _ {words : ℕ} (z : number ≡ 0) (e : words ≡ wordCount card) where
     pub name-unknown : words ≤ word → 35 ≡ nameNumber card word
     name-unknown le =
-        answers-first (unless (ltb word (wordCount card)) 35 ∷ []) (failing (le-ltb word (wordCount card) (rw e at le))) ∙ sym (name-of-word card word (sym same ∙ z))
+        decides-first (unless (ltb word (wordCount card)) 35 ∷ []) (failing (le-ltb word (wordCount card) (rw e at le))) ∙ sym (name-of-word card word (sym same ∙ z))
 
     pub name-known : word < words → 0 ≡ nameNumber card word
     name-known lt =
-        answers-first (unless (ltb word (wordCount card)) 35 ∷ []) (holding (lt-ltb word (wordCount card) (rw e at lt)) accepts) ∙ sym (name-of-word card word (sym same ∙ z))
+        decides-first (unless (ltb word (wordCount card)) 35 ∷ []) (holding (lt-ltb word (wordCount card) (rw e at lt)) accepts) ∙ sym (name-of-word card word (sym same ∙ z))
 
 -- The part of the card that Name returns.
 pub size-at : (card : List ℕ) (word at : ℕ) {b n : ℕ} → at ≡ entryAt card word → b ≡ byteAt card at → n ≡ b → n ≡ spellingLength card word

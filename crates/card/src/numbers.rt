@@ -19,7 +19,7 @@ pub fn two(s: &[u8], at: usize) -> u64
     requires { ⌜ at + 2 ≤ length (now s) ⌝ }
     ensures { λ r. ⌜ r ≡ asNumber (take 2 (drop at (now (s .entry)))) ⌝ }
 {
-    (s[at] as u64) + 256 * (s[at + 1] as u64)
+    octets::read16(s, at) as u64
 }
 
 pub fn four(s: &[u8], at: usize) -> u64

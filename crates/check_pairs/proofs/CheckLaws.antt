@@ -15,7 +15,7 @@ use Rattle.layout.specs.Card.{grammarOf, cardNumber}
 use Rattle.layout.specs.Steps.{stepsOf}
 use Rattle.layout.specs.Answers.{inputNumber, wordsIn, lineTest, planPasses, checkNumber, planPairs, pairsAfter}
 use Rattle.layout.proofs.CardLaws.{card-one-sided}
-use Rattle.layout.proofs.RefusalLaws.{accepts, holding, failing, answers-first}
+use Rattle.layout.proofs.RefusalLaws.{accepts, holding, failing, decides-first}
 use Rattle.layout.proofs.Accepting.{AcceptedLine, input-of-card, check-of-input, check-of-plan}
 use Rattle.places.specs.Places.{wordTest}
 use Rattle.line.specs.Accepted.{Accepts}
@@ -61,12 +61,12 @@ module _ (card line : List ℕ) (r : Accepted) (x : Accepts card line r) where
 
       pub check-fails : b ≡ false → 34 ≡ checkNumber card line plan
       check-fails f =
-          answers-first (unless (planPasses card line (stepsOf plan)) 34 ∷ []) (failing (sym decided ∙ f))
+          decides-first (unless (planPasses card line (stepsOf plan)) 34 ∷ []) (failing (sym decided ∙ f))
           ∙ sym (check-of-plan card line plan (answered-number x h))
 
       pub check-passes : b ≡ true → 0 ≡ checkNumber card line plan
       check-passes f =
-          answers-first (unless (planPasses card line (stepsOf plan)) 34 ∷ []) (holding (sym decided ∙ f) accepts)
+          decides-first (unless (planPasses card line (stepsOf plan)) 34 ∷ []) (holding (sym decided ∙ f) accepts)
           ∙ sym (check-of-plan card line plan (answered-number x h))
 
 -- The pairs of a plan that passes.

@@ -18,7 +18,7 @@ use Rattle.layout.specs.Card.{production, productionCount, grammarOf}
 use Rattle.layout.specs.Steps.{stepsOf, pairsBytes}
 use Rattle.layout.specs.Answers.{planPairs, pairsAfter}
 use Rattle.goals.specs.Shown.{actionOf, stepFrom, StepAt}
-use Rattle.check_pairs.specs.Matching.{CanGive, RoomToMatch, held, Matches, Matched}
+use Rattle.check_pairs.specs.Matching.{CanGive, RoomToMatch, inHand, Matches, Matched}
 use Rattle.check_pairs.specs.declared.matching.Matching.{Matching}
 use Rattle.goals.specs.declared.replay.StepBytes.{StepBytes}
 use Rattle.goals.proofs.ShownLaws.{tops-length}
@@ -125,7 +125,7 @@ module _ (card plan : List ℕ) (x : Passed card plan) where
   pub record Writing (before : List ℕ) (count : ℕ) (takes room : List ℕ) (at : Matching) (left : ℕ) : Type 0 where
     pub inPlan : 4 * left ≤ length plan
     pub matches : Matches before count (takesOf (grammarOf card) (drop left (planOf plan)))
-        (matched (grammarOf card) (drop left (planOf plan))) (held takes room at)
+        (matched (grammarOf card) (drop left (planOf plan))) (inHand takes room at)
 
   pub writing-start : (before : List ℕ) (count : ℕ) → 2 * count ≤ length before
       → Writing before count (replicate 25 0) before (record { waiting = 0; unwritten = count }) (length plan / 4)
@@ -190,7 +190,7 @@ module _ (card plan : List ℕ) (x : Passed card plan) where
           })
 
       pub writing-turn : (takes′ room′ : List ℕ) (to : Matching) {b : Action} → b ≡ actionOf R → {side : Stretch}
-          → side ≡ sideOf R (stepFrom st) → Matched b side (held takes room at) (held takes′ room′ to)
+          → side ≡ sideOf R (stepFrom st) → Matched b side (inHand takes room at) (inHand takes′ room′ to)
           → Writing before count takes′ room′ to (left - 1)
       writing-turn takes′ room′ to d q y = record {
         inPlan = omega (arith, w .inPlan);

@@ -12,7 +12,7 @@ use Rattle.grammar.specs.Pairs.{Stretch, placeIn, Pair, pair}
 use Rattle.grammar.specs.Matching.{topOf}
 use Rattle.layout.specs.Steps.{pairsBytes}
 use Rattle.goals.specs.Shown.{tops}
-use Rattle.check_pairs.specs.Matching.{Held, held, Matches, Matched}
+use Rattle.check_pairs.specs.Matching.{InHand, inHand, Matches, Matched}
 use Rattle.check_pairs.specs.declared.matching.Matching.{Matching}
 use Rattle.goals.proofs.ShownLaws.{tops-length, tops-put}
 
@@ -40,16 +40,16 @@ store-pair before rest room n a b h e =
     ∙ subst (λ (m : ℕ). set (set (front ++ (x ∷ y ∷ rest)) m a) (suc m) b ≡ front ++ (a ∷ b ∷ rest)) l (set-pair front rest x y a b)
 
 -- What a give leaves: its pair in front of those written before, and a place fewer that waits.
-abbrev given : ℕ → List ℕ → List ℕ → Matching → Held
+abbrev given : ℕ → List ℕ → List ℕ → Matching → InHand
 given place takes room from =
     let n = 2 * (from .unwritten - 1) in
-    held takes (set (set room n place) (n + 1) (getD takes (from .waiting - 1) 0))
+    inHand takes (set (set room n place) (n + 1) (getD takes (from .waiting - 1) 0))
     (record { waiting = from .waiting - 1; unwritten = from .unwritten - 1 })
 
 module _ {a : Action} (side : Stretch) {place : ℕ} (p : place ≡ placeIn side) (takes room : List ℕ) (from : Matching) where
   pub matched-take : {γ : ℕ} → a ≡ Take γ → from .waiting ≤ 24
-      → Matched a side (held takes room from)
-      (held (set takes (from .waiting) place) room (record { waiting = from .waiting + 1; unwritten = from .unwritten }))
+      → Matched a side (inHand takes room from)
+      (inHand (set takes (from .waiting) place) room (record { waiting = from .waiting + 1; unwritten = from .unwritten }))
   matched-take e h = record {
     matched = λ before count ts xs m. rw e (record {
       allTakes = length-set takes (from .waiting) place ∙ m .allTakes;
@@ -62,13 +62,13 @@ module _ {a : Action} (side : Stretch) {place : ℕ} (p : place ≡ placeIn side
     });
   }
 
-  pub matched-keep : a ≡ Keep → Matched a side (held takes room from) (held takes room from)
+  pub matched-keep : a ≡ Keep → Matched a side (inHand takes room from) (inHand takes room from)
   matched-keep e = record { matched = λ before count ts xs m. rw e m }
 
-  pub matched-give : {γ : ℕ} → a ≡ Give γ → 0 < from .waiting → 0 < from .unwritten → Matched a side (held takes room from) (given place takes room from)
+  pub matched-give : {γ : ℕ} → a ≡ Give γ → 0 < from .waiting → 0 < from .unwritten → Matched a side (inHand takes room from) (given place takes room from)
   matched-give e h k = record { matched = λ before count ts xs m. rw e (go before count ts xs m) }
     where
-      go : (before : List ℕ) (count : ℕ) (ts : List Stretch) (xs : List Pair) → Matches before count ts xs (held takes room from)
+      go : (before : List ℕ) (count : ℕ) (ts : List Stretch) (xs : List Pair) → Matches before count ts xs (inHand takes room from)
           → Matches before count (tail ts) (pair side (topOf ts) ∷ xs) (given place takes room from)
       go before count [] xs m = absurd (omega (arith, tops-length takes (from .waiting), ap length (m .shown)))
       go before count (t ∷ ts) xs m =

@@ -33,16 +33,16 @@ pub record RoomToMatch (a : Action) (room : List ℕ) (at : Matching) : Type 0 w
   pub gives : CanGive a at
 
 -- What the pass back has in hand: the array with the places that wait, the room, and how far it is.
-pub record Held : Type 0 where
+pub record InHand : Type 0 where
   pub takes : List ℕ
   pub room : List ℕ
   pub at : Matching
 
-abbrev pub held : List ℕ → List ℕ → Matching → Held
-held takes room at = record { takes = takes; room = room; at = at }
+abbrev pub inHand : List ℕ → List ℕ → Matching → InHand
+inHand takes room at = record { takes = takes; room = room; at = at }
 
 -- The places of the sides ts wait, and of the pairs, `count` in all, the last ones, xs, are written over what the room had before.
-pub record Matches (before : List ℕ) (count : ℕ) (ts : List Stretch) (xs : List Pair) (h : Held) : Type 0 where
+pub record Matches (before : List ℕ) (count : ℕ) (ts : List Stretch) (xs : List Pair) (h : InHand) : Type 0 where
   pub allTakes : length (h .takes) ≡ entries
   pub shown : tops (h .takes) (h .at .waiting) ≡ map placeIn ts
   pub total : h .at .unwritten + length xs ≡ count
@@ -50,6 +50,6 @@ pub record Matches (before : List ℕ) (count : ℕ) (ts : List Stretch) (xs : L
   pub written : h .room ≡ take (2 * h .at .unwritten) before ++ (pairsBytes xs ++ drop (2 * count) before)
 
 -- One step back: with its action and its side, what waits and is written goes from the rest of the plan to the rest with the step in front.
-pub record Matched (a : Action) (side : Stretch) (from to : Held) : Type 0 where
+pub record Matched (a : Action) (side : Stretch) (from to : InHand) : Type 0 where
   pub matched : (before : List ℕ) (count : ℕ) (ts : List Stretch) (xs : List Pair) → Matches before count ts xs from
       → Matches before count (takesAction a side ts) (matchedAction a side ts xs) to

@@ -16,7 +16,7 @@ ghost use Rattle.layout.specs.Steps.{stepsOf};
 ghost use Rattle.layout.specs.Answers.{planPairs, pairsAfter};
 ghost use Rattle.card.specs.Productions.{actionFrom, ruleFrom};
 ghost use Rattle.goals.specs.Shown.{actionOf, stepFrom};
-ghost use Rattle.check_pairs.specs.Matching.{stretchFrom, Checked, RoomToMatch, held, Matched};
+ghost use Rattle.check_pairs.specs.Matching.{stretchFrom, Checked, RoomToMatch, inHand, Matched};
 
 // How many takes wait for their give, and how many pairs are still to be written.
 pub struct Matching {
@@ -105,8 +105,8 @@ fn match_step(
     at: Matching,
 ) -> Matching
     requires { ⌜ RoomToMatch (actionFrom action) (now room) at ⌝ }
-    ensures { λ r. ⌜ Matched (actionFrom action) (stretchFrom side) (held (now (takes .entry)) (now (room .entry)) at)
-        (held (now (takes .exit)) (now (room .exit)) r) ⌝ }
+    ensures { λ r. ⌜ Matched (actionFrom action) (stretchFrom side) (inHand (now (takes .entry)) (now (room .entry)) at)
+        (inHand (now (takes .exit)) (now (room .exit)) r) ⌝ }
 {
     let place = place_in(side);
     let waiting = at.waiting;

@@ -16,7 +16,7 @@ use Rattle.grammar.specs.Plan.{PlanStep, planStep}
 use Rattle.layout.specs.Bytes.{counted}
 use Rattle.layout.specs.Card.{production, productionCount, grammarOf}
 use Rattle.goals.specs.Goals.{Goal, goal, Standing, stuck, standing, topIndex, actionFits, fits, replaced, turnTo, turn, next}
-use Rattle.goals.specs.Shown.{tops, namesOf, indicesOf, arrays, Shows, actionOf, CanTake, ShowsAt, Replaced, FirstGoal, inSet, fitsTop, stepFrom, Advanced}
+use Rattle.goals.specs.Shown.{tops, namesOf, indicesOf, arrays, Shows, actionOf, CanTake, ShowsAt, Replaced, FirstGoal, inSet, fitsTop, stepFrom, Replayed}
 use Rattle.goals.specs.declared.replay.Stand.{Stand}
 use Rattle.goals.specs.declared.replay.StepBytes.{StepBytes}
 use Rattle.goals.specs.declared.replay.Top.{Top}
@@ -94,7 +94,7 @@ no-count names count (goal A s j ∷ rest) e h =
 
 module _ (card places : List ℕ) (st : StepBytes) (names ends bases stack : List ℕ) (from : Stand) where
   abbrev Refused : Type 0
-  Refused = Advanced card places st (arrays names ends bases stack) from (arrays names ends bases stack) Stuck
+  Refused = Replayed card places st (arrays names ends bases stack) from (arrays names ends bases stack) Stuck
 
   pub advanced-none : from .count ≡ 0 → Refused
   advanced-none h = record {
@@ -170,7 +170,7 @@ module _ (card places : List ℕ) (st : StepBytes) (names ends bases stack : Lis
       pub advanced-fit : (names′ ends′ bases′ stack′ : List ℕ) (to : Stand)
           → fitsTop R (getD places (top .start) 0) top k ≡ true
           → Replaced R k (arrays names ends bases stack) from (arrays names′ ends′ bases′ stack′) to
-          → Advanced card places st (arrays names ends bases stack) from (arrays names′ ends′ bases′ stack′) (To to)
+          → Replayed card places st (arrays names ends bases stack) from (arrays names′ ends′ bases′ stack′) (To to)
       advanced-fit names′ ends′ bases′ stack′ to m y = record { told = λ goals x. go goals x }
         where
           fit : fitsTop R (getD places (top .start) 0) top (st .split) ≡ true

@@ -18,7 +18,7 @@ use Rattle.layout.specs.Bytes.{byteAt}
 use Rattle.layout.specs.Card.{grammarOf}
 use Rattle.layout.specs.Steps.{andStep, stepsOf}
 use Rattle.goals.specs.Goals.{Goal, goal, Standing, stuck, standing, allReached, next, goalsRun, goalsStart, replayFrom, Tiled, reached, tiled}
-use Rattle.goals.specs.Shown.{tops, namesOf, indicesOf, arrays, Shows, ShowsAt, Within, stepFrom, StepAt, Tells, Advanced}
+use Rattle.goals.specs.Shown.{tops, namesOf, indicesOf, arrays, Shows, ShowsAt, Within, stepFrom, StepAt, Tells, Replayed}
 use Rattle.goals.specs.declared.replay.Stand.{Stand}
 use Rattle.goals.specs.declared.replay.StepBytes.{StepBytes}
 use Rattle.goals.specs.declared.replay.Turn.{Turn}
@@ -151,7 +151,7 @@ module _ (card places : List ℕ) (n : ℕ) (plan : List ℕ) where
 
     module _ (st : StepBytes) (here : at + 4 ≤ length plan) (s : StepAt plan at st)
         (names′ ends′ bases′ stack′ : List ℕ) (r : Turn)
-        (y : Advanced card places st (arrays names ends bases stack) stand (arrays names′ ends′ bases′ stack′) r) where
+        (y : Replayed card places st (arrays names ends bases stack) stand (arrays names′ ends′ bases′ stack′) r) where
       rest-same : replayFrom (grammarOf card) (wordTest places)
           (next (grammarOf card) (wordTest places) (stepFrom st) (standing (stand .place) (x .goals))) (stepsOf (drop (at + 4) plan))
           ≡ Answer

@@ -149,7 +149,7 @@ abbrev pub Tells : Arrays → Turn → Standing → Type 0
 Tells a Stuck S = S ≡ stuck
 Tells a (To at) S = ShowsAt (a .names) (a .ends) (a .bases) (a .stack) at S
 
-pub record Advanced (card places : List ℕ) (st : StepBytes) (old : Arrays) (from : Stand) (new : Arrays) (r : Turn) : Type 0 where
+pub record Replayed (card places : List ℕ) (st : StepBytes) (old : Arrays) (from : Stand) (new : Arrays) (r : Turn) : Type 0 where
   pub told : (goals : List Goal) → Shows (old .names) (old .ends) (old .bases) (old .stack) (from .count) (from .top) goals
       → Tells new r (next (grammarOf card) (wordTest places) (stepFrom st) (standing (from .place) goals))
 

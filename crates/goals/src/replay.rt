@@ -16,7 +16,7 @@ ghost use Rattle.grammar.specs.Rewriting.{Lexical};
 ghost use Rattle.card.specs.Productions.{actionFrom, ruleFrom};
 ghost use Rattle.goals.specs.Goals as model;
 ghost use Rattle.goals.specs.Shown.{tops, arrays, standOf, actionOf, CanTake, Acted, Opened, Room, Replaced};
-ghost use Rattle.goals.specs.Shown.{Within, FirstGoal, splitFitsTop, fitsTop, StepAt, RulesOf, Advanced};
+ghost use Rattle.goals.specs.Shown.{Within, FirstGoal, splitFitsTop, fitsTop, StepAt, RulesOf, Replayed};
 
 // A step of a plan as its four bytes: the production's number, and its stretch with the split.
 pub struct StepBytes {
@@ -271,7 +271,7 @@ fn advance(
     stack: &mut [u8; ENTRIES],
 ) -> Turn
     requires { ⌜ RulesOf (now card) rules × Within (now bases) stand ⌝ }
-    ensures { λ r. ⌜ Advanced (now (card .entry)) (now (places .entry)) step
+    ensures { λ r. ⌜ Replayed (now (card .entry)) (now (places .entry)) step
         (arrays (now (names .entry)) (now (ends .entry)) (now (bases .entry)) (now (stack .entry))) stand
         (arrays (now (names .exit)) (now (ends .exit)) (now (bases .exit)) (now (stack .exit))) r ⌝ }
 {

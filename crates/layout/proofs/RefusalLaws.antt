@@ -1,5 +1,5 @@
 -- What a list of refusals answers: the first condition that does not hold gives its number, and 0 says that all hold.
--- One law, `first-answers`, by going down the list; the others follow from it. No proof elsewhere takes a list of refusals apart.
+-- One law, `first-decides`, by going down the list; the others follow from it. No proof elsewhere takes a list of refusals apart.
 use Prim.Native.Nat.{ℕ, zero, suc, _≤_, _<_, max}
 use native.Mathlib.Omega.{arith}
 use mathlib.Core.Path.{_≡_, refl, sym, _∙_, subst}
@@ -12,28 +12,28 @@ use Rattle.layout.specs.Refusals.{Refusal, unless, firstRefusal}
 
 -- The answer x of a list: 0 where nothing is left to ask; the number of a condition that does not hold; what the others answer after
 -- one that holds.
-pub data Answers : List Refusal → ℕ → Type 0 where
-  accepts : Answers [] 0
-  refuses : {number : ℕ} {others : List Refusal} → Answers (unless false number ∷ others) number
-  passes : {number x : ℕ} {others : List Refusal} → Answers others x → Answers (unless true number ∷ others) x
+pub data Decides : List Refusal → ℕ → Type 0 where
+  accepts : Decides [] 0
+  refuses : {number : ℕ} {others : List Refusal} → Decides (unless false number ∷ others) number
+  passes : {number x : ℕ} {others : List Refusal} → Decides others x → Decides (unless true number ∷ others) x
 
-pub first-answers : (l : List Refusal) → Answers l (firstRefusal l)
-first-answers [] = accepts
-first-answers (unless true number ∷ others) = passes (first-answers others)
-first-answers (unless false number ∷ others) = refuses
+pub first-decides : (l : List Refusal) → Decides l (firstRefusal l)
+first-decides [] = accepts
+first-decides (unless true number ∷ others) = passes (first-decides others)
+first-decides (unless false number ∷ others) = refuses
 
 -- By a condition that is known to hold, or not to.
-pub holding : {holds : Bool} {number x : ℕ} {others : List Refusal} → holds ≡ true → Answers others x → Answers (unless holds number ∷ others) x
-holding {number = number} {x = x} {others = others} e a = subst (λ (b : Bool). Answers (unless b number ∷ others) x) (sym e) (passes a)
+pub holding : {holds : Bool} {number x : ℕ} {others : List Refusal} → holds ≡ true → Decides others x → Decides (unless holds number ∷ others) x
+holding {number = number} {x = x} {others = others} e a = subst (λ (b : Bool). Decides (unless b number ∷ others) x) (sym e) (passes a)
 
-pub failing : {holds : Bool} {number : ℕ} {others : List Refusal} → holds ≡ false → Answers (unless holds number ∷ others) number
-failing {number = number} {others = others} e = subst (λ (b : Bool). Answers (unless b number ∷ others) number) (sym e) refuses
+pub failing : {holds : Bool} {number : ℕ} {others : List Refusal} → holds ≡ false → Decides (unless holds number ∷ others) number
+failing {number = number} {others = others} e = subst (λ (b : Bool). Decides (unless b number ∷ others) number) (sym e) refuses
 
 -- And no other number is an answer: this is how a call shows that its number is right.
-pub answers-first : (l : List Refusal) {x : ℕ} → Answers l x → x ≡ firstRefusal l
-answers-first [] accepts = refl
-answers-first (unless false number ∷ l) refuses = refl
-answers-first (unless true number ∷ l) (passes a) = answers-first l a
+pub decides-first : (l : List Refusal) {x : ℕ} → Decides l x → x ≡ firstRefusal l
+decides-first [] accepts = refl
+decides-first (unless false number ∷ l) refuses = refl
+decides-first (unless true number ∷ l) (passes a) = decides-first l a
 
 -- No refusal has the number 0; the greatest number of a list; does a number stand in it? All three compute.
 abbrev pub numbered : List Refusal → Bool
@@ -61,16 +61,16 @@ some-number : (number : ℕ) (others : List Refusal) → numbered (unless false 
 some-number number others n e = let h = ltb-true 0 number (and-parts (ltb 0 number) (numbered others) n .0) in omega arith
 
 -- Where the answer is 0 every condition holds.
-answers-hold : {l : List Refusal} {x k number : ℕ} {b : Bool} → Answers l x → numbered l ≡ true → x ≡ 0 → Stands l k (unless b number)
+decides-hold : {l : List Refusal} {x k number : ℕ} {b : Bool} → Decides l x → numbered l ≡ true → x ≡ 0 → Stands l k (unless b number)
     → b ≡ true
-answers-hold (refuses {number} {others}) n e s = absurd (some-number number others n e)
-answers-hold (passes a) n e here = refl
-answers-hold (passes {number} {others = others} a) n e (there s) =
-    answers-hold a (and-parts (ltb 0 number) (numbered others) n .1) e s
+decides-hold (refuses {number} {others}) n e s = absurd (some-number number others n e)
+decides-hold (passes a) n e here = refl
+decides-hold (passes {number} {others = others} a) n e (there s) =
+    decides-hold a (and-parts (ltb 0 number) (numbered others) n .1) e s
 
 pub zero-holds : (l : List Refusal) {k number : ℕ} {b : Bool} → numbered l ≡ true → firstRefusal l ≡ 0 → Stands l k (unless b number)
     → b ≡ true
-zero-holds l n e s = answers-hold (first-answers l) n e s
+zero-holds l n e s = decides-hold (first-decides l) n e s
 
 -- Refusals that come before others: where they refuse they answer, and else the others do.
 pub before-refuses : (l m : List Refusal) → (firstRefusal l ≡ 0 → ⊥) → firstRefusal (l ++ m) ≡ firstRefusal l

@@ -12,7 +12,7 @@ use Rattle.layout.specs.Refusals.{unless}
 use Rattle.layout.specs.Card.{cardNumber}
 use Rattle.layout.specs.Line.{isLineByte, mostWords, wordsOf, allKnown, wordsRefusals, lineRefusals}
 use Rattle.layout.specs.Answers.{inputNumber, wordsIn}
-use Rattle.layout.proofs.RefusalLaws.{Answers, accepts, holding, failing, answers-first, before-accepts}
+use Rattle.layout.proofs.RefusalLaws.{Decides, accepts, holding, failing, decides-first, before-accepts}
 use Rattle.layout.proofs.Accepting.{input-of-card, input-of-line}
 use Rattle.line.specs.declared.Accepted.{Accepted}
 use Rattle.line.specs.Accepted.{noPlaces, placesOf, wordsNumber, Refused, Verdict, Accepts}
@@ -44,7 +44,7 @@ refuses-card {card} {line} e n =
 pub refuses-byte : {card line : List ℕ} {r : Accepted} → cardNumber card ≡ 0 → allBytes isLineByte line ≡ false
     → Refused 22 r → Accepts card line r
 refuses-byte {card} {line} ok e =
-    refuses (input-of-line card line ok ∙ sym (answers-first (lineRefusals card line) (failing e))) (λ z. omega arith)
+    refuses (input-of-line card line ok ∙ sym (decides-first (lineRefusals card line) (failing e))) (λ z. omega arith)
 
 -- Where the bytes fit, the words decide.
 pub words-decide : (card line : List ℕ) → cardNumber card ≡ 0 → allBytes isLineByte line ≡ true
@@ -52,10 +52,10 @@ pub words-decide : (card line : List ℕ) → cardNumber card ≡ 0 → allBytes
 words-decide card line ok e =
     input-of-line card line ok
     ∙ before-accepts (unless (allBytes isLineByte line) 22 ∷ []) (wordsRefusals (wordsIn line) (allKnown card (wordsOf line))) refl
-    (sym (answers-first (unless (allBytes isLineByte line) 22 ∷ []) (holding e accepts)))
+    (sym (decides-first (unless (allBytes isLineByte line) 22 ∷ []) (holding e accepts)))
 
-number : (n : ℕ) (known : Bool) {x : ℕ} → Answers (wordsRefusals n known) x → wordsNumber n known ≡ x
-number n known a = sym (answers-first (wordsRefusals n known) a)
+number : (n : ℕ) (known : Bool) {x : ℕ} → Decides (wordsRefusals n known) x → wordsNumber n known ≡ x
+number n known a = sym (decides-first (wordsRefusals n known) a)
 
 -- The verdict on n words, each known or not.
 module _ {n : ℕ} {known : Bool} {stored : List ℕ} where
