@@ -20,7 +20,6 @@ use Rattle.unfold.specs.declared.Start.the-variants.{At, Missing}
 -- Each of the first count records of the room is justified, for the line of the test.
 pub record Held (card : List ℕ) (at : ℕ → ℕ → Bool) (chart : List ℕ) (count : ℕ) : Type 0 where
   pub there : 16 * count ≤ length chart
-  pub few : count ≤ 65535
   pub justified : (m : ℕ) (e : Record) → Stands (chartIn chart count) m e
       → Justified (grammarOf card) (Holds at) (chartIn chart count) m e
 

@@ -221,7 +221,7 @@ fn spine(
 
 // Where the item of the start over n words stands.
 pub fn find_start(chart: &[u8], count: usize, n: usize) -> Start
-    requires { ⌜ (16 * count ≤ length (now chart)) × (n ≤ 24) ⌝ }
+    requires { ⌜ 16 * count ≤ length (now chart) ⌝ }
     ensures { λ r. ⌜ Found (now (chart .entry)) count n r ⌝ }
 {
     let mut m = count;
