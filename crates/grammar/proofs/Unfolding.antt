@@ -12,7 +12,7 @@ use Rattle.grammar.specs.Items.{Foot, bare, foot, Derived, wordStep, tak
 use Rattle.grammar.specs.ItemList.{Item, item}
 use Rattle.grammar.specs.Plan.{PlanStep, planStep, firstOf, othersOf, Yields, nothing, reads, replaces, LeftmostDerivation}
 use Rattle.grammar.specs.Chart.{Record, recorded, itemOf, Earlier, earlier, Results, taken, kept, given}
-use Rattle.grammar.specs.Chart.{Justified, byWord, sideFirst, sideLast, onward, Pends, settled, awaits, productionOf, unfoldRule, unfolds}
+use Rattle.grammar.specs.Chart.{Justified, byWord, sideFirst, sideLast, onward, Pends, nothingPends, awaits, productionOf, unfoldRule, unfolds}
 use Rattle.grammar.proofs.StandsLaws.{stands-getElem}
 
 -- The parts of an item.
@@ -105,15 +105,15 @@ module _ (g : List Rule) (at : ℕ → ℕ → Type 0) (c : List Record)
       → Pends c (footOf (itemOf e)) s pending → endOf (itemOf e) - startOf (itemOf e) ≤ suc depth → Unfolded depth go
       → Yields g at (nonterminal (nameOf (itemOf e)) s ∷ []) (startOf (itemOf e)) (endOf (itemOf e))
       (unfoldRule c go (getElem? g (productionOf e)) e pending)
-  rule-yields (byWord r a) settled h below = rw (stands-getElem r) (step-yields g at (lexical r) (reads a nothing) nothing)
+  rule-yields (byWord r a) nothingPends h below = rw (stands-getElem r) (step-yields g at (lexical r) (reads a nothing) nothing)
   rule-yields (sideFirst r (earlier l x) y o) ps h below =
       let w = onwards o y ps in let u = justified-longer x refl in let v = goes-longer (w .rest) in
       rw (stands-getElem r, stands-getElem x)
-      (step-yields g at (spine r (w .acts)) (below _ _ _ _ _ _ (goes x settled) (omega arith)) (below _ _ _ _ _ _ (w .rest) (omega arith)))
+      (step-yields g at (spine r (w .acts)) (below _ _ _ _ _ _ (goes x nothingPends) (omega arith)) (below _ _ _ _ _ _ (w .rest) (omega arith)))
   rule-yields (sideLast r y (earlier l x) o) ps h below =
       let w = onwards o y ps in let u = justified-longer x refl in let v = goes-longer (w .rest) in
       rw (stands-getElem r, stands-getElem x)
-      (step-yields g at (spine r (w .acts)) (below _ _ _ _ _ _ (w .rest) (omega arith)) (below _ _ _ _ _ _ (goes x settled) (omega arith)))
+      (step-yields g at (spine r (w .acts)) (below _ _ _ _ _ _ (w .rest) (omega arith)) (below _ _ _ _ _ _ (goes x nothingPends) (omega arith)))
 
   goes-yields : (depth : ℕ) → Unfolded depth (λ x ys. unfolds g c depth x ys)
   goes-yields zero A i j m s pending v h = let l = goes-longer v in absurd (omega arith)
@@ -128,4 +128,4 @@ module _ (g : List Rule) (at : ℕ → ℕ → Type 0) (c : List Record)
 
   pub chart-plan : {n m : ℕ} {e : Record} → Stands c m e → itemOf e ≡ item 0 0 n bare
       → LeftmostDerivation g at n (unfolds g c n m [])
-  chart-plan {n} {m} r t = unfolds-yields n m r t settled (omega arith)
+  chart-plan {n} {m} r t = unfolds-yields n m r t nothingPends (omega arith)

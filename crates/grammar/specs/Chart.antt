@@ -50,13 +50,14 @@ pub record IsChart (g : List Rule) (at : ℕ → ℕ → Type 0) (c : List Recor
   pub complete : (A i j : ℕ) (φ : Foot) → Derived g at A i j φ → (m : ℕ) × (e : Record) × Stands c m e × (itemOf e ≡ item A i j φ)
 
 -- Unfolding. A side is unfolded with nothing pending, a spine with the positions of its pending continuations. Where a spine goes
--- on after a step: a take goes on with the pending continuation and not with its recorded dependent, a give adds its own.
+-- on after a step: a take goes on with the pending continuation and not with its recorded dependent, a give adds its own. A take never
+-- comes with nothing pending, since its item has a foot; it would go on nowhere.
 pub record Onward : Type 0 where
   pub position : ℕ
   pub pending : List ℕ
 
 abbrev pub onward : Action → ℕ → ℕ → List ℕ → Onward
-onward (Take γ) dependent continuation [] = record { position = dependent; pending = [] }
+onward (Take γ) dependent continuation [] = record { position = nowhere; pending = [] }
 onward (Take γ) dependent continuation (x ∷ pending) = record { position = x; pending = pending }
 onward Keep dependent continuation pending = record { position = dependent; pending = pending }
 onward (Give γ) dependent continuation pending = record { position = dependent; pending = continuation ∷ pending }
@@ -64,7 +65,7 @@ onward (Give γ) dependent continuation pending = record { position = dependent;
 -- `Pends c φ s pending`: under the foot φ the stack s is still to be taken, and at the positions `pending` stand the records that
 -- the takes go on with, top first.
 pub data Pends (c : List Record) : Foot → List ℕ → List ℕ → Type 0 where
-  settled : Pends c bare [] []
+  nothingPends : Pends c bare [] []
   awaits : {γ B p q x r y z u : ℕ} {φ : Foot} {s pending : List ℕ} → Stands c x (recorded (item B p q φ) r y z u)
       → Pends c φ s pending → Pends c (foot γ B p q) (γ ∷ s) (x ∷ pending)
 

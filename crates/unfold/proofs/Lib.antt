@@ -3,5 +3,7 @@ pub mod Waiting
 pub mod Places
 pub mod Turns
 pub mod Spines
+pub mod Opening
+pub mod Joining
 pub mod Starting
 pub mod Whole

@@ -11,16 +11,16 @@ use Rattle.grammar.specs.Items.{bare, foot}
 use Rattle.grammar.specs.ItemList.{item}
 use Rattle.grammar.specs.Chart.{itemOf}
 use Rattle.layout.specs.Bytes.{byteAt}
-use Rattle.layout.specs.Records.{recordAt, footOf, footThere}
+use Rattle.layout.specs.Records.{recordAt, asFoot, footThere}
 use Rattle.unfold.specs.Spine.{nameAt, fromAt, toAt, IsStart}
 
-foot-bare : (γ B p q : ℕ) → footOf γ B p q ≡ bare → γ ≡ 0
+foot-bare : (γ B p q : ℕ) → asFoot γ B p q ≡ bare → γ ≡ 0
 foot-bare γ B p q e = elim (ℕ-discrete γ 0) [
   | yes h ↦ h
   | no ne ↦ let d : foot γ B p q ≡ bare = rw (ne-eqb γ 0 ne) at e in let z : _≡_ {A = ℕ} 0 1 = cc in absurd (omega arith)
 ]
 
-bare-foot : (γ B p q : ℕ) → γ ≡ 0 → footOf γ B p q ≡ bare
+bare-foot : (γ B p q : ℕ) → γ ≡ 0 → asFoot γ B p q ≡ bare
 bare-foot γ B p q e = rw (eq-eqb γ 0 e)
 
 module _ (chart : List ℕ) (m n : ℕ) where

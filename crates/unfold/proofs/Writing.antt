@@ -24,41 +24,41 @@ plan-join [] others = refl
 plan-join (st ∷ steps) others = rw (plan-join steps others) (sym (append-assoc (stepBytes st) (planBytes steps) (planBytes others)))
 
 -- The four stores of a step.
-pub wrote-step : (old : List ℕ) (at p i k j : ℕ) → at + 4 ≤ length old
-    → Wrote old at (stepBytes (planStep p i k j)) (set (set (set (set old at p) (at + 1) i) (at + 2) k) (at + 3) j) (at + 4)
-wrote-step old at p i k j h =
+pub wrote-step : (old : List ℕ) (here p i k j : ℕ) → here + 4 ≤ length old
+    → Wrote old here (stepBytes (planStep p i k j)) (set (set (set (set old here p) (here + 1) i) (here + 2) k) (here + 3) j) (here + 4)
+wrote-step old here p i k j h =
     record {
       ends = refl;
       fits = h;
       written = rw (add-one, add-two, add-three)
-          (sets-eq (p ∷ i ∷ k ∷ j ∷ []) old at h ∙ append-assoc (take at old) (p ∷ i ∷ k ∷ j ∷ []) (drop (at + 4) old));
+          (sets-eq (p ∷ i ∷ k ∷ j ∷ []) old here h ∙ append-assoc (take here old) (p ∷ i ∷ k ∷ j ∷ []) (drop (here + 4) old));
     }
 
-module _ {old bytes mid : List ℕ} {at next : ℕ} (w : Wrote old at bytes mid next) where
-  at-inside : at ≤ length old
-  at-inside = let e = w .ends in let f = w .fits in omega arith
+module _ {old bytes mid : List ℕ} {here next : ℕ} (w : Wrote old here bytes mid next) where
+  here-inside : here ≤ length old
+  here-inside = let e = w .ends in let f = w .fits in omega arith
 
-  front : length (take at old ++ bytes) ≡ next
-  front = let e = w .ends in let l = length-take-le at old at-inside in simp length-append (omega arith)
+  front : length (take here old ++ bytes) ≡ next
+  front = let e = w .ends in let l = length-take-le here old here-inside in simp length-append (omega arith)
 
-  wrote-front : take next mid ≡ take at old ++ bytes
+  wrote-front : take next mid ≡ take here old ++ bytes
   wrote-front =
-      rw (w .written, ← append-assoc (take at old) bytes (drop next old))
-      (take-at (take at old ++ bytes) (drop next old) next front)
+      rw (w .written, ← append-assoc (take here old) bytes (drop next old))
+      (take-at (take here old ++ bytes) (drop next old) next front)
 
   wrote-back : drop next mid ≡ drop next old
   wrote-back =
-      rw (w .written, ← append-assoc (take at old) bytes (drop next old))
-      (drop-at (take at old ++ bytes) (drop next old) next front)
+      rw (w .written, ← append-assoc (take here old) bytes (drop next old))
+      (drop-at (take here old ++ bytes) (drop next old) next front)
 
   wrote-past : (n : ℕ) → drop (next + n) mid ≡ drop (next + n) old
   wrote-past n = rw (← drop-drop n next mid, wrote-back, drop-drop n next old)
 
   pub wrote-length : length mid ≡ length old
   wrote-length = let f = w .fits in
-      rw (w .written, ← append-assoc (take at old) bytes (drop next old), length-append, front, length-drop) (omega arith)
+      rw (w .written, ← append-assoc (take here old) bytes (drop next old), length-append, front, length-drop) (omega arith)
 
-  pub wrote-then : {more new : List ℕ} {last : ℕ} → Wrote mid next more new last → Wrote old at (bytes ++ more) new last
+  pub wrote-then : {more new : List ℕ} {last : ℕ} → Wrote mid next more new last → Wrote old here (bytes ++ more) new last
   wrote-then {more} {new} {last} v =
       let e = w .ends in
       let d = v .ends in
@@ -69,5 +69,5 @@ module _ {old bytes mid : List ℕ} {at next : ℕ} (w : Wrote old at bytes mid 
       }
     where
       shifted : (last : ℕ) → last ≡ next + length more
-          → take next mid ++ (more ++ drop last mid) ≡ take at old ++ ((bytes ++ more) ++ drop last old)
-      shifted last d = rw (wrote-front, d, wrote-past, append-assoc (take at old) bytes, append-assoc bytes more)
+          → take next mid ++ (more ++ drop last mid) ≡ take here old ++ ((bytes ++ more) ++ drop last old)
+      shifted last d = rw (wrote-front, d, wrote-past, append-assoc (take here old) bytes, append-assoc bytes more)

@@ -1,10 +1,12 @@
--- Document 01, "The plan": what unfolding promises. The room's records are those of a chart, whatever chart it is.
+-- Document 01, "The plan": what unfolding promises. The room's records are those of a chart, whatever chart it is. The line is read
+-- through a test: `at i w`, is the word at place i word number w?
 use Prim.Native.Nat.{ℕ, _+_, _*_, _≤_, _<_}
 use mathlib.Core.Path.{_≡_}
+use mathlib.Core.Bool.{Bool}
 use mathlib.Core.List.{List, _++_}
 use lib.ListN.{length, drop}
 use Rattle.grammar.specs.Lists.{Stands}
-use Rattle.grammar.specs.Input.{Holds, wordIs}
+use Rattle.grammar.specs.Input.{Holds}
 use Rattle.grammar.specs.Items.{bare}
 use Rattle.grammar.specs.ItemList.{item}
 use Rattle.grammar.specs.Chart.{Record, Justified, itemOf}
@@ -15,28 +17,32 @@ use Rattle.layout.specs.Steps.{planBytes, planRoom}
 use Rattle.unfold.specs.declared.Start.{Start}
 use Rattle.unfold.specs.declared.Start.the-variants.{At, Missing}
 
--- Each of the first count records of the room is justified, for some words.
-pub record Held (card words chart : List ℕ) (count : ℕ) : Type 0 where
+-- Each of the first count records of the room is justified, for the line of the test.
+pub record Held (card : List ℕ) (at : ℕ → ℕ → Bool) (chart : List ℕ) (count : ℕ) : Type 0 where
   pub there : 16 * count ≤ length chart
-  pub few : count ≤ 65535
   pub justified : (m : ℕ) (e : Record) → Stands (chartIn chart count) m e
-      → Justified (grammarOf card) (Holds (wordIs words)) (chartIn chart count) m e
+      → Justified (grammarOf card) (Holds at) (chartIn chart count) m e
 
--- What unfolding asks: an accepted card and such a room, with the item of the start over n words at position m, and room for its plan.
+-- What unfolding asks: an accepted card and such a room, for some test, with the item of the start over n words at position m, and
+-- room for its plan.
 pub record Unfoldable (card chart : List ℕ) (count m n : ℕ) (plan : List ℕ) : Type 0 where
   pub accepted : cardNumber card ≡ 0
-  pub words : List ℕ
-  pub held : Held card words chart count
+  pub at : ℕ → ℕ → Bool
+  pub held : Held card at chart count
   pub inside : m < count
   pub whole : itemOf (recordAt chart m) ≡ item 0 0 n bare
   pub room : planRoom n ≤ length plan
   pub short : n ≤ 24
 
 -- The plan room got a leftmost derivation of n words, and has what it had past it.
-pub record Planned (card words : List ℕ) (n : ℕ) (old new : List ℕ) : Type 0 where
+pub record Planned (card : List ℕ) (at : ℕ → ℕ → Bool) (n : ℕ) (old new : List ℕ) : Type 0 where
   pub steps : List PlanStep
-  pub derives : LeftmostDerivation (grammarOf card) (Holds (wordIs words)) n steps
+  pub derives : LeftmostDerivation (grammarOf card) (Holds at) n steps
   pub written : new ≡ planBytes steps ++ drop (4 * length steps) old
+
+-- And it did so for every test for which the room's records are justified.
+abbrev pub Plans : List ℕ → List ℕ → ℕ → ℕ → List ℕ → List ℕ → Type 0
+Plans card chart count n old new = (at : ℕ → ℕ → Bool) → Held card at chart count → Planned card at n old new
 
 -- Where the item of the start over all n words stands, if it does.
 abbrev pub Found : List ℕ → ℕ → ℕ → Start → Type 0

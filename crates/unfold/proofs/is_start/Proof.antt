@@ -1,7 +1,7 @@
 -- Each test that fails shows a byte that the item of the start does not have, and four that pass are that item.
 -- The laws of Starting.antt turn bytes into the item and back.
 use denote.Ref.{now}
-use mathlib.Core.Path.{sym, _∙_}
+use native.Mathlib.Omega.{arith}
 use Rattle.unfold.proofs.Starting.{start-name, start-index, start-from, start-to, start-there}
 use borrow.Author.Needs.{needs}
 use Rattle.unfold.proofs.is_start.Statement.{statement}
@@ -50,7 +50,7 @@ wide-requires c κs = search needs
 returns-4 : tie.Need-returns-4
 returns-4 c =
     let a = c .before .before .before .before .before .before .before .before .before .before .args in
-    λ e. c .if4 .taken (c .before .wide .ensures .0 ∙ start-to (now (a .chart)) (a .m) (a .n) e)
+    λ e. absurd (omega (arith, c .if4 .taken, c .before .wide .ensures .0, start-to (now (a .chart)) (a .m) (a .n) e))
 
 returns-5 : tie.Need-returns-5
 returns-5 c =
@@ -59,7 +59,7 @@ returns-5 c =
     (c .before .before .before .before .before .before .before .if1 .left)
     (c .before .before .before .before .before .if2 .left)
     (c .before .before .before .if3 .left)
-    (sym (c .before .wide .ensures .0) ∙ c .if4 .left)
+    (omega (arith, c .before .wide .ensures .0, c .if4 .left))
 
 pub is-start-spec : {M : Type 1} → statement M
 is-start-spec =

@@ -35,7 +35,7 @@ same-length : tie.Need-same-length
 same-length c = search needs
 
 returns : tie.Need-returns
-returns c = let a = c .args in wrote-step (a .plan .now) (a .at) (a .p) (a .i) (a .k) (a .j) (c .pre)
+returns c = let a = c .args in wrote-step (a .plan .now) (a .at) (a .node .production) (a .node .from) (a .k) (a .node .to) (c .pre)
 
 pub put-step-spec : {M : Type 1} → statement M
 put-step-spec =
