@@ -75,7 +75,8 @@ returns c =
     let f = closeEnd (a .room) g at (a .symbols) in
     closed-all
     (fold-over f (l .e + 1) (a .n) (some []) (end-none (a .room) g at (a .symbols))
-    (fold-then f (l .e) (some []) (inv .2) (inv .1) (end-grows (a .room) g at (a .symbols)) (c .before .before .before .before .before .before .before .before .before .before .before .close-end .ensures .0)) (c .if1 .taken) (omega (arith, c .before .before .before .before .before .before .before .before .before .before .before .before .before .before .before .before .before .before .loop-test .taken)))
+    (fold-then f (l .e) (some []) (inv .2) (inv .1) (end-grows (a .room) g at (a .symbols)) (c .before .before .before .before .before .before .before .before .before .before .before .close-end .ensures .0))
+    (c .if1 .taken) (omega (arith, c .before .before .before .before .before .before .before .before .before .before .before .before .before .before .before .before .before .before .loop-test .taken)))
 
 add-e : tie.Need-add-e Inv-loop μ-loop
 add-e c = omega (arith, c .before .before .before .before .before .before .before .before .before .before .before .before .before .before .before .before .before .before .loop-test .taken, c .before .before .before .before .before .before .before .before .before .before .before .before .before .before .before .before .before .before .before .before .before .before .before .before .before .pre .0 .wordsFit)
