@@ -24,7 +24,7 @@ use Rattle.card.specs.declared.Production.{Production}
 use Rattle.card.specs.declared.Production.the-variants.{Word}
 use Rattle.chart_model.specs.Build.{flatUp, barePlaces, byRule, dependentFirst, turned, ruleAt, byWord, byRuleOver, byProduction, candidates}
 use Rattle.chart_model.proofs.BuildLaws.{turned-within, turned-twice}
-use Rattle.records.specs.Bits.{bitOf}
+use Rattle.bits.specs.Bits.{bitOf}
 use Rattle.records.specs.Room.{chartIn, footNumber}
 use Rattle.records.specs.Index.{spans, Indexed}
 use Rattle.chart.specs.Tables.{FirstAbsent, SecondAbsent, leftIs, packedRule, rulesFrom, grammarIn, byOne, chosen, CellSet, thisWord, isWordOf, Least, Without, Splits, Turns}
@@ -32,8 +32,8 @@ use Rattle.chart_model.proofs.Absent.{concatMap-none, flatUp-none, choice-none,
 use Rattle.steps.proofs.StepLaws.{flatUp-add}
 use Rattle.steps.proofs.StepCover.{Advancing, advance-skip}
 use Rattle.records.proofs.TableLaws.{spans-twice}
-use Rattle.records.proofs.BitLaws.{bitOf-below, bitOf-zero, bitOf-or, bitOf-power, bitOf-other}
-use Rattle.chart.proofs.BitSets.{or-bits, without-has, without-lacks, bit-one, Walk, walk-has, walk-passed, walk-end}
+use Rattle.bits.proofs.BitLaws.{bitOf-below, bitOf-zero, bitOf-or, bitOf-power, bitOf-other}
+use Rattle.bits.proofs.BitSets.{or-bits, without-has, without-lacks, bit-one, Walk, walk-has, walk-passed, walk-end}
 
 -- Rules: the one at a place, and the first `many`.
 pub rule-there : (rules : List ℕ) (p : ℕ) → p < length rules

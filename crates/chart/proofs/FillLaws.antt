@@ -21,7 +21,7 @@ use Rattle.layout.specs.Bytes.{counted}
 use Rattle.chart_model.specs.Build.{places, barePlaces}
 use Rattle.chart_model.proofs.FillModel.{IsCell, Grown, grown-length, places-other, bares-other, bareAt, places-own, bares-own, foot-place, fresh-among, not-so}
 use Rattle.records.specs.declared.index.Range.{Range}
-use Rattle.records.specs.Bits.{bitOf, holdsBit}
+use Rattle.bits.specs.Bits.{bitOf, holdsBit}
 use Rattle.records.specs.Room.{chartIn, stateOf, footThere, FootFits, footNumber, numberedChart, numberThere, markOf, Marked, Working}
 use Rattle.records.specs.Index.{spans, spanAt, cellAt, rangeIn, bareIn, Indexed}
 use Rattle.chart.specs.Tables.{FirstAbsent, SecondAbsent, Rows, Sorted, bareFrom, Finished}

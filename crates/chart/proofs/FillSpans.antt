@@ -22,15 +22,15 @@ use Rattle.chart_model.specs.Build.{foldUp, places, byRule, byWord, byRuleOver,
 use Rattle.chart_model.proofs.BuildLaws.{foldUp-more}
 use Rattle.chart_model.proofs.FillModel.{Grown, same, grown-length, cell-grown, span-grown, end-grown, all-grown, places-other, bares-other, fold-none, not-so}
 use Rattle.chart_model.proofs.Absent.{splits-none, candidates-none}
-use Rattle.records.specs.Bits.{bitOf}
+use Rattle.bits.specs.Bits.{bitOf}
 use Rattle.records.specs.Room.{chartIn, numberedChart}
 use Rattle.records.specs.Index.{spanAt}
 use Rattle.chart.specs.Tables.{FirstAbsent, SecondAbsent, Sorted, Splits, leftIs, OwnSet, CellSet}
 use Rattle.chart.specs.declared.sets.Meeting.{Meeting}
 use Rattle.chart.specs.Fill.{WordRule, SetOf, Classified, bothAt, Met, Meets, SpanSet, NextLeft, Between, Filled, Closed}
-use Rattle.records.proofs.BitLaws.{bitOf-and}
+use Rattle.bits.proofs.BitLaws.{bitOf-and}
 use Rattle.records.proofs.RoomLaws.{chart-length}
-use Rattle.chart.proofs.BitSets.{and-zero, bit-one}
+use Rattle.bits.proofs.BitSets.{and-zero, bit-one}
 use Rattle.chart.proofs.CellLaws.{absent-first, absent-second, not-own}
 use Rattle.chart.proofs.FillLaws.{state-some, state-over, bit-zero, first-kept, second-kept}
 use Rattle.chart.proofs.FillCells.{word-true, over-filled}

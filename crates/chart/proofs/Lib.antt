@@ -1,4 +1,3 @@
-pub mod BitSets
 pub mod CellLaws
 pub mod FinishLaws
 pub mod SetLaws

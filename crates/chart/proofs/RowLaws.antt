@@ -10,13 +10,13 @@ use mathlib.Core.List.{List}
 use lib.Bits.{bitAnd, bitOr, and-zero-l, and-zero-r}
 use lib.ListN.{length, getD, set, length-set}
 use lib.Seq.{getD-set-same, getD-set-other}
-use Rattle.records.specs.Bits.{bitOf}
+use Rattle.bits.specs.Bits.{bitOf}
 use Rattle.records.specs.Index.{spans, spanAt}
-use Rattle.records.proofs.BitLaws.{bitOf-zero, one-shifted}
+use Rattle.bits.proofs.BitLaws.{bitOf-zero, one-shifted}
 use Rattle.records.proofs.TableLaws.{spans-twice, span-below, span-same}
 use Rattle.chart.specs.Tables.{rowAt, columnAt, Rows, Without}
 use Rattle.chart.specs.Fill.{bothAt, Met, Meets, Noted}
-use Rattle.chart.proofs.BitSets.{or-bits, without-has, without-lacks, and-zero, and-one, bit-one}
+use Rattle.bits.proofs.BitSets.{or-bits, without-has, without-lacks, and-zero, and-one, bit-one}
 use Rattle.chart.proofs.SetLaws.{orInto, into-there, into-kept, with-there, with-others}
 
 -- Rows and columns alike: for each x a line of the y with a set that is not empty at `cell x y`.

@@ -17,12 +17,12 @@ use Rattle.card.specs.Productions.{actionFrom, ruleFrom}
 use Rattle.card.specs.declared.Action as declared
 use Rattle.card.specs.declared.Production.{Production}
 use Rattle.card.specs.declared.Production.the-variants.{Word, SideFirst, SideLast}
-use Rattle.records.specs.Bits.{bitOf}
+use Rattle.bits.specs.Bits.{bitOf}
 use Rattle.steps.specs.Fits.{RuleFits}
 use Rattle.chart.specs.Tables.{leftIs, packedRule, rulesFrom, grammarIn, RulesFit}
 use Rattle.chart.specs.Fill.{FirstSide, FirstDependent, SecondSide, SecondDependent, SetOf, Classified, withBit, Joined, WordRule}
-use Rattle.records.proofs.BitLaws.{bitOf-or, bitOf-zero, bitOf-power, bitOf-other}
-use Rattle.chart.proofs.BitSets.{or-bits}
+use Rattle.bits.proofs.BitLaws.{bitOf-or, bitOf-zero, bitOf-power, bitOf-other}
+use Rattle.bits.proofs.BitSets.{or-bits}
 use Rattle.chart.proofs.CellLaws.{rule-there}
 
 -- Bits go into the set at a place: no set loses a bit, and that set has those.

@@ -9,7 +9,7 @@ use lib.ListN.{length, take, drop, getD, getElem?, set}
 use Rattle.grammar.specs.Rewriting.{Rule, Lexical, Spine}
 use Rattle.grammar.specs.Items.{Foot}
 use Rattle.grammar.specs.Chart.{Record}
-use Rattle.records.specs.Bits.{bitOf}
+use Rattle.bits.specs.Bits.{bitOf}
 use Rattle.records.specs.Room.{chartIn, stateOf, FootFits, FeetFit, numberedChart, markOf}
 use Rattle.records.specs.Index.{spans, spanAt, Indexed}
 use Rattle.records.specs.Cover.{Covered}

@@ -12,22 +12,11 @@ use Rattle.grammar.specs.ItemList.{isBare}
 use Rattle.grammar.specs.Chart.{Record}
 use Rattle.layout.specs.Card.{ruleOf}
 use Rattle.chart_model.specs.Build.{places, barePlaces, turned, byRuleOver}
-use Rattle.records.specs.Bits.{bitOf, holdsBit}
+use Rattle.bits.specs.Bits.{bitOf, holdsBit}
 use Rattle.records.specs.Room.{footThere, numberThere}
 use Rattle.records.specs.Index.{spans, spanAt}
 use Rattle.records.specs.declared.index.Range.{Range}
 use Rattle.steps.specs.Fits.{RuleFits}
-
--- The least number of a set of bits; and a set without one of its numbers.
-pub record Least (set k : ℕ) : Type 0 where
-  pub small : k < 64
-  pub has : bitOf k set ≡ 1
-  pub first : (q : ℕ) → q < k → bitOf q set ≡ 0
-
-pub record Without (set k rest : ℕ) : Type 0 where
-  pub gone : bitOf k rest ≡ 0
-  pub kept : (q : ℕ) → (q ≡ k → ⊥) → bitOf q rest ≡ bitOf q set
-  pub less : rest < set
 
 -- Neither element of a rule over a split: what the sets let the builder pass over.
 abbrev pub FirstAbsent : List Record → ℕ → ℕ → Rule → Type 0

@@ -1,8 +1,8 @@
 // Cell by cell, span by span, end by end: the spans of an end from the shortest.
 use crate::sets::Meeting;
+use octets::wide;
 use records::add::Sizes;
 use records::record::Cell;
-use records::record::wide;
 ghost use mathlib.Core.Path.{_≡_};
 ghost use mathlib.Core.List.{[]};
 ghost use mathlib.Core.Option.{some};

@@ -1,12 +1,12 @@
 // One cell: the items of A over i to j.
 use card::Production;
+use octets::wide;
 use records::add::Sizes;
 use records::index::Range;
 use records::record::Cell;
 use records::record::Foot;
 use records::record::NOWHERE;
 use records::record::Origin;
-use records::record::wide;
 ghost use mathlib.Core.Path.{_≡_};
 ghost use Prim.Native.Nat.{_+_, _-_, _≤_, _<_};
 ghost use lib.ListN.{length, getD, take};
@@ -102,9 +102,9 @@ fn across_splits(
     let mut rest = turns;
     let mut total = count;
     while rest != 0 {
-        let m = crate::bits::least(rest);
+        let m = bits::least(rest);
         let k = crate::sets::turned(m, back, sum);
-        rest = crate::bits::without(rest, m);
+        rest = bits::without(rest, m);
         total = steps::step::by_production(
             chart,
             marks,
@@ -188,8 +188,8 @@ pub fn fill_items(
     let mut rest = set;
     let mut total = count;
     while rest != 0 {
-        let p = crate::bits::least(rest);
-        rest = crate::bits::without(rest, p);
+        let p = bits::least(rest);
+        rest = bits::without(rest, p);
         total = by_rule_over(
             chart,
             marks,

@@ -1,5 +1,4 @@
 // The chart builder (document 01, "The chart"): the derivable items of an accepted line, each once, in a lent room.
-mod bits;
 mod build;
 mod cell;
 mod rules;

@@ -1,14 +1,14 @@
 // Sets of productions, as 64 bits: which productions a span can serve.
 use card::Production;
+use octets::wide;
 use records::index::Range;
 use records::record::Cell;
-use records::record::wide;
 ghost use mathlib.Core.Path.{_≡_};
 ghost use Prim.Native.Nat.{ℕ, _≤_, _<_};
 ghost use lib.ListN.{length, replicate};
 ghost use Rattle.card.specs.Productions.{ruleFrom};
 ghost use Rattle.chart_model.specs.Build.{turned};
-ghost use Rattle.records.specs.Bits.{bitOf};
+ghost use Rattle.bits.specs.Bits.{bitOf};
 ghost use Rattle.steps.specs.Fits.{RuleFits};
 ghost use Rattle.chart.specs.Tables.{grammarIn, RulesFit, Rows, Turns};
 ghost use Rattle.chart.specs.Fill.{Classified, Joined, withBit, Met, Meets, Noted, NextLeft};
@@ -83,8 +83,8 @@ pub fn meet(sets: &[u64], n: usize, i: usize, j: usize, both: &mut [u64; 25]) ->
     let mut productions = 0u64;
     let mut rest = splits;
     while rest != 0 {
-        let k = crate::bits::least(rest);
-        rest = crate::bits::without(rest, k);
+        let k = bits::least(rest);
+        rest = bits::without(rest, k);
         let first = sets[2 * records::index::span_at(n, i, k)];
         let second = sets[2 * records::index::span_at(n, k, j) + 1];
         let here = first & second;
@@ -158,8 +158,8 @@ pub fn turns_of(both: &[u64; 25], splits: u64, p: usize, back: bool, sum: usize)
     let mut turns = 0u64;
     let mut rest = splits;
     while rest != 0 {
-        let k = crate::bits::least(rest);
-        rest = crate::bits::without(rest, k);
+        let k = bits::least(rest);
+        rest = bits::without(rest, k);
         if both[k] & bit != 0 {
             turns = turns | (1u64 << turned(k, back, sum));
         }

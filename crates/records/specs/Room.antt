@@ -10,13 +10,13 @@ use Rattle.grammar.specs.Lists.{concatMap}
 use Rattle.grammar.specs.Items.{Foot, bare, foot}
 use Rattle.grammar.specs.ItemList.{item, among}
 use Rattle.grammar.specs.Chart.{Record, recorded, itemOf}
-use Rattle.layout.specs.Bytes.{byteAt, wordAt, lowByte, highByte}
-pub use Rattle.layout.specs.Records.{recordBytes, chartBytes, footOf, footThere, recordAt, chartIn}
+use Rattle.layout.specs.Bytes.{byteAt, number16At, lowByte, highByte}
+pub use Rattle.layout.specs.Records.{recordBytes, chartBytes, asFoot, footThere, recordAt, chartIn}
 use Rattle.chart_model.specs.Build.{footAt, addEach}
 use Rattle.records.specs.declared.record.Cell.{Cell}
 use Rattle.records.specs.declared.record.Foot as declared
 use Rattle.records.specs.declared.record.Origin.{Origin}
-use Rattle.records.specs.Bits.{holdsBit}
+use Rattle.bits.specs.Bits.{holdsBit}
 use Rattle.records.specs.Index.{spans, cellAt}
 
 -- The same as the model has it: a count above the room says that an item did not fit.
@@ -25,7 +25,7 @@ stateOf room bytes count = cond (leb count room) (some (chartIn bytes count)) no
 
 -- What the code's structs stand for.
 abbrev pub footFrom : declared.Foot → Foot
-footFrom f = footOf (f .index) (f .symbol) (f .from) (f .to)
+footFrom f = asFoot (f .index) (f .symbol) (f .from) (f .to)
 
 abbrev pub recordFrom : Cell → declared.Foot → Origin → Record
 recordFrom c f o =
@@ -65,7 +65,7 @@ abbrev pub numberedChart : ℕ → ℕ → List Record → List ℕ
 numberedChart n N c = concatMap (numbered n N) c
 
 abbrev pub numberThere : List ℕ → ℕ → ℕ
-numberThere bytes m = wordAt bytes (16 * m + 14)
+numberThere bytes m = number16At bytes (16 * m + 14)
 
 -- The bytes with zeros in place of the numbers of the first so many records.
 abbrev pub numbersCleared : ℕ → List ℕ → List ℕ

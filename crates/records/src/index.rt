@@ -1,4 +1,5 @@
 // Where the records of each cell stand.
+use octets::wide16;
 ghost use mathlib.Core.Path.{_≡_};
 ghost use Prim.Native.Nat.{_+_, _*_, _≤_, _<_};
 ghost use lib.ListN.{length, set};
@@ -9,12 +10,6 @@ pub struct Range {
     pub from: usize,
     pub to: usize,
     pub bare: usize,
-}
-
-pub fn wide16(x: u16) -> usize
-    ensures { λ r. ⌜ r ≡ x ⌝ }
-{
-    x as usize
 }
 
 // The place of a span among those of n words, and of a cell where each span has N nonterminals.

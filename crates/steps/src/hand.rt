@@ -1,7 +1,7 @@
 // What a step has in hand before its dependent is known: its production, its side, and the cell that it adds to.
+use octets::wide;
 use records::add::Sizes;
 use records::record::Cell;
-use records::record::wide;
 ghost use mathlib.Core.Path.{_≡_};
 ghost use Prim.Native.Nat.{_*_, _≤_, _<_};
 ghost use Rattle.records.specs.Index.{spans, cellAt, SpanFits};

@@ -12,12 +12,12 @@ use Rattle.grammar.specs.Chart.{Record}
 use Rattle.card.specs.Productions.{ruleFrom}
 use Rattle.chart_model.specs.Build.{byRule, dependentFirst, turned, ruleAt}
 use Rattle.chart_model.proofs.BuildLaws.{turned-within}
-use Rattle.records.specs.Bits.{bitOf}
+use Rattle.bits.specs.Bits.{bitOf}
 use Rattle.records.specs.Room.{chartIn}
 use Rattle.chart.specs.Tables.{packedRule}
 use Rattle.steps.proofs.StepLaws.{loop-works, loop-kept}
 use Rattle.steps.proofs.StepCover.{Advancing, advanced-as, advance-start, advance-asks, advance-turn, advance-over, advance-rest}
-use Rattle.chart.proofs.BitSets.{bit-zero-unless, Walk, walk-start, walk-from, walk-has, walk-passed, walk-next, walk-end}
+use Rattle.bits.proofs.BitSets.{bit-zero-unless, Walk, walk-start, walk-from, walk-has, walk-passed, walk-next, walk-end}
 use Rattle.chart.proofs.CellLaws.{grammar-there, turn-within, turn-idle, indexed-same, advance-to}
 use Rattle.chart.proofs.SetLaws.{rule-fits}
 use Rattle.chart.proofs.cell.across_splits.Statement.{statement}

@@ -13,7 +13,7 @@ use Rattle.records.specs.Cover.{Advanced}
 use Rattle.chart.specs.Tables.{chosen}
 use Rattle.steps.proofs.StepLaws.{loop-works, loop-kept}
 use Rattle.steps.proofs.StepCover.{Advancing, advanced-as, advance-start, advance-asks, advance-turn, advance-over, advance-rest}
-use Rattle.chart.proofs.BitSets.{Walk, walk-start, walk-from, walk-has, walk-next}
+use Rattle.bits.proofs.BitSets.{Walk, walk-start, walk-from, walk-has, walk-next}
 use Rattle.chart.proofs.CellLaws.{chosen-next, chosen-passed, chosen-after, bit-within, advance-to, all-chosen, indexed-same, splits-same}
 use Rattle.chart.proofs.FillCells.{grammar-length}
 use Rattle.chart.proofs.cell.fill_items.Statement.{statement}
