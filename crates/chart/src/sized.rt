@@ -1,10 +1,13 @@
 // The tables beside the room, on the stack. Their sizes go by the words and by whether the card has at most 6 nonterminals, so that
 // clearing them costs little where little is needed.
+use crate::sets::BOUNDS;
+use crate::sets::SETS;
 use card::Card;
+use places::MOST_WORDS;
 ghost use mathlib.Core.Path.{_≡_};
 ghost use Prim.Native.Nat.{_+_, _*_, _≤_, _<_};
-ghost use lib.ListN.{length, take, replicate};
-ghost use Rattle.grammar.specs.Input.{wordIs};
+ghost use lib.ListN.{length, replicate};
+ghost use Rattle.places.specs.Places.{wordTest};
 ghost use Rattle.layout.specs.Card.{grammarOf, nonterminalCount};
 ghost use Rattle.chart_model.specs.Build.{build};
 ghost use Rattle.chart.specs.Built.{Buildable, RoomLent, TablesLent};
@@ -13,7 +16,7 @@ ghost use Rattle.chart.specs.Fill.{Closed};
 // With tables that are all 0 and long enough.
 fn build_with(
     card: &[u8],
-    words: &[u8; 24],
+    places: &[u32; MOST_WORDS],
     n: usize,
     room: usize,
     chart: &mut [u8],
@@ -22,17 +25,18 @@ fn build_with(
     covers: &mut [u16],
     sets: &mut [u64],
 ) -> usize
-    requires { ⌜ Buildable (now card) (now words) n × RoomLent room (now chart) × TablesLent n (nonterminalCount (now card)) (now marks) (now index) (now sets) (now covers) ⌝ }
-    ensures { λ r. ⌜ Closed n (nonterminalCount (now (card .entry))) room (build room (grammarOf (now (card .entry))) (wordIs (take n (now (words .entry)))) (nonterminalCount (now (card .entry))) n) (now (chart .entry)) (now (chart .exit)) r ⌝ }
+    requires { ⌜ Buildable (now card) (now places) n × RoomLent room (now chart)
+        × TablesLent n (nonterminalCount (now card)) (now marks) (now index) (now sets) (now covers) ⌝ }
+    ensures { λ r. ⌜ Closed n (nonterminalCount (now (card .entry))) room
+        (build room (grammarOf (now (card .entry))) (wordTest (now (places .entry))) (nonterminalCount (now (card .entry))) n)
+        (now (chart .entry)) (now (chart .exit)) r ⌝ }
 {
-    let counts = Card::of(card);
-    let many = counts.productions;
-    let symbols = counts.nonterminals;
-    let mut rules = [0u64; 64];
-    crate::rules::decode_all(card, counts.words, many, &mut rules);
-    let mut by = [0u64; 112];
-    crate::sets::classify(&rules, many, &mut by);
-    let mut both = [0u64; 25];
+    let view = Card::of(card);
+    let symbols = view.nonterminals;
+    let table = view.production_table();
+    let mut by = [0u64; SETS];
+    crate::sets::classify(card, table, view.productions, &mut by);
+    let mut both = [0u64; BOUNDS];
     crate::build::close_all(
         chart,
         marks,
@@ -44,15 +48,23 @@ fn build_with(
         n,
         symbols,
         room,
-        &rules,
-        many,
-        words,
+        card,
+        table,
+        places,
     )
 }
 
-fn build_least(card: &[u8], words: &[u8; 24], n: usize, room: usize, chart: &mut [u8]) -> usize
-    requires { ⌜ Buildable (now card) (now words) n × RoomLent room (now chart) × (n ≤ 4) × (nonterminalCount (now card) ≤ 6) ⌝ }
-    ensures { λ r. ⌜ Closed n (nonterminalCount (now (card .entry))) room (build room (grammarOf (now (card .entry))) (wordIs (take n (now (words .entry)))) (nonterminalCount (now (card .entry))) n) (now (chart .entry)) (now (chart .exit)) r ⌝ }
+fn build_least(
+    card: &[u8],
+    places: &[u32; MOST_WORDS],
+    n: usize,
+    room: usize,
+    chart: &mut [u8],
+) -> usize
+    requires { ⌜ Buildable (now card) (now places) n × RoomLent room (now chart) × (n ≤ 4) × (nonterminalCount (now card) ≤ 6) ⌝ }
+    ensures { λ r. ⌜ Closed n (nonterminalCount (now (card .entry))) room
+        (build room (grammarOf (now (card .entry))) (wordTest (now (places .entry))) (nonterminalCount (now (card .entry))) n)
+        (now (chart .entry)) (now (chart .exit)) r ⌝ }
 {
     let mut marks = [0u8; 61];
     let mut index = [0u16; 180];
@@ -60,7 +72,7 @@ fn build_least(card: &[u8], words: &[u8; 24], n: usize, room: usize, chart: &mut
     let mut sets = [0u64; 30];
     build_with(
         card,
-        words,
+        places,
         n,
         room,
         chart,
@@ -71,9 +83,17 @@ fn build_least(card: &[u8], words: &[u8; 24], n: usize, room: usize, chart: &mut
     )
 }
 
-fn build_short(card: &[u8], words: &[u8; 24], n: usize, room: usize, chart: &mut [u8]) -> usize
-    requires { ⌜ Buildable (now card) (now words) n × RoomLent room (now chart) × (n ≤ 6) ⌝ }
-    ensures { λ r. ⌜ Closed n (nonterminalCount (now (card .entry))) room (build room (grammarOf (now (card .entry))) (wordIs (take n (now (words .entry)))) (nonterminalCount (now (card .entry))) n) (now (chart .entry)) (now (chart .exit)) r ⌝ }
+fn build_short(
+    card: &[u8],
+    places: &[u32; MOST_WORDS],
+    n: usize,
+    room: usize,
+    chart: &mut [u8],
+) -> usize
+    requires { ⌜ Buildable (now card) (now places) n × RoomLent room (now chart) × (n ≤ 6) ⌝ }
+    ensures { λ r. ⌜ Closed n (nonterminalCount (now (card .entry))) room
+        (build room (grammarOf (now (card .entry))) (wordTest (now (places .entry))) (nonterminalCount (now (card .entry))) n)
+        (now (chart .entry)) (now (chart .exit)) r ⌝ }
 {
     let mut marks = [0u8; 337];
     let mut index = [0u16; 1008];
@@ -81,7 +101,7 @@ fn build_short(card: &[u8], words: &[u8; 24], n: usize, room: usize, chart: &mut
     let mut sets = [0u64; 56];
     build_with(
         card,
-        words,
+        places,
         n,
         room,
         chart,
@@ -92,9 +112,17 @@ fn build_short(card: &[u8], words: &[u8; 24], n: usize, room: usize, chart: &mut
     )
 }
 
-fn build_eight_few(card: &[u8], words: &[u8; 24], n: usize, room: usize, chart: &mut [u8]) -> usize
-    requires { ⌜ Buildable (now card) (now words) n × RoomLent room (now chart) × (n ≤ 8) × (nonterminalCount (now card) ≤ 6) ⌝ }
-    ensures { λ r. ⌜ Closed n (nonterminalCount (now (card .entry))) room (build room (grammarOf (now (card .entry))) (wordIs (take n (now (words .entry)))) (nonterminalCount (now (card .entry))) n) (now (chart .entry)) (now (chart .exit)) r ⌝ }
+fn build_eight_few(
+    card: &[u8],
+    places: &[u32; MOST_WORDS],
+    n: usize,
+    room: usize,
+    chart: &mut [u8],
+) -> usize
+    requires { ⌜ Buildable (now card) (now places) n × RoomLent room (now chart) × (n ≤ 8) × (nonterminalCount (now card) ≤ 6) ⌝ }
+    ensures { λ r. ⌜ Closed n (nonterminalCount (now (card .entry))) room
+        (build room (grammarOf (now (card .entry))) (wordTest (now (places .entry))) (nonterminalCount (now (card .entry))) n)
+        (now (chart .entry)) (now (chart .exit)) r ⌝ }
 {
     let mut marks = [0u8; 217];
     let mut index = [0u16; 648];
@@ -102,7 +130,7 @@ fn build_eight_few(card: &[u8], words: &[u8; 24], n: usize, room: usize, chart: 
     let mut sets = [0u64; 90];
     build_with(
         card,
-        words,
+        places,
         n,
         room,
         chart,
@@ -113,9 +141,17 @@ fn build_eight_few(card: &[u8], words: &[u8; 24], n: usize, room: usize, chart: 
     )
 }
 
-fn build_middle_few(card: &[u8], words: &[u8; 24], n: usize, room: usize, chart: &mut [u8]) -> usize
-    requires { ⌜ Buildable (now card) (now words) n × RoomLent room (now chart) × (n ≤ 12) × (nonterminalCount (now card) ≤ 6) ⌝ }
-    ensures { λ r. ⌜ Closed n (nonterminalCount (now (card .entry))) room (build room (grammarOf (now (card .entry))) (wordIs (take n (now (words .entry)))) (nonterminalCount (now (card .entry))) n) (now (chart .entry)) (now (chart .exit)) r ⌝ }
+fn build_middle_few(
+    card: &[u8],
+    places: &[u32; MOST_WORDS],
+    n: usize,
+    room: usize,
+    chart: &mut [u8],
+) -> usize
+    requires { ⌜ Buildable (now card) (now places) n × RoomLent room (now chart) × (n ≤ 12) × (nonterminalCount (now card) ≤ 6) ⌝ }
+    ensures { λ r. ⌜ Closed n (nonterminalCount (now (card .entry))) room
+        (build room (grammarOf (now (card .entry))) (wordTest (now (places .entry))) (nonterminalCount (now (card .entry))) n)
+        (now (chart .entry)) (now (chart .exit)) r ⌝ }
 {
     let mut marks = [0u8; 469];
     let mut index = [0u16; 1404];
@@ -123,7 +159,7 @@ fn build_middle_few(card: &[u8], words: &[u8; 24], n: usize, room: usize, chart:
     let mut sets = [0u64; 182];
     build_with(
         card,
-        words,
+        places,
         n,
         room,
         chart,
@@ -134,9 +170,17 @@ fn build_middle_few(card: &[u8], words: &[u8; 24], n: usize, room: usize, chart:
     )
 }
 
-fn build_middle(card: &[u8], words: &[u8; 24], n: usize, room: usize, chart: &mut [u8]) -> usize
-    requires { ⌜ Buildable (now card) (now words) n × RoomLent room (now chart) × (n ≤ 12) ⌝ }
-    ensures { λ r. ⌜ Closed n (nonterminalCount (now (card .entry))) room (build room (grammarOf (now (card .entry))) (wordIs (take n (now (words .entry)))) (nonterminalCount (now (card .entry))) n) (now (chart .entry)) (now (chart .exit)) r ⌝ }
+fn build_middle(
+    card: &[u8],
+    places: &[u32; MOST_WORDS],
+    n: usize,
+    room: usize,
+    chart: &mut [u8],
+) -> usize
+    requires { ⌜ Buildable (now card) (now places) n × RoomLent room (now chart) × (n ≤ 12) ⌝ }
+    ensures { λ r. ⌜ Closed n (nonterminalCount (now (card .entry))) room
+        (build room (grammarOf (now (card .entry))) (wordTest (now (places .entry))) (nonterminalCount (now (card .entry))) n)
+        (now (chart .entry)) (now (chart .exit)) r ⌝ }
 {
     let mut marks = [0u8; 1249];
     let mut index = [0u16; 3744];
@@ -144,7 +188,7 @@ fn build_middle(card: &[u8], words: &[u8; 24], n: usize, room: usize, chart: &mu
     let mut sets = [0u64; 182];
     build_with(
         card,
-        words,
+        places,
         n,
         room,
         chart,
@@ -157,13 +201,15 @@ fn build_middle(card: &[u8], words: &[u8; 24], n: usize, room: usize, chart: &mu
 
 fn build_sixteen_few(
     card: &[u8],
-    words: &[u8; 24],
+    places: &[u32; MOST_WORDS],
     n: usize,
     room: usize,
     chart: &mut [u8],
 ) -> usize
-    requires { ⌜ Buildable (now card) (now words) n × RoomLent room (now chart) × (n ≤ 16) × (nonterminalCount (now card) ≤ 6) ⌝ }
-    ensures { λ r. ⌜ Closed n (nonterminalCount (now (card .entry))) room (build room (grammarOf (now (card .entry))) (wordIs (take n (now (words .entry)))) (nonterminalCount (now (card .entry))) n) (now (chart .entry)) (now (chart .exit)) r ⌝ }
+    requires { ⌜ Buildable (now card) (now places) n × RoomLent room (now chart) × (n ≤ 16) × (nonterminalCount (now card) ≤ 6) ⌝ }
+    ensures { λ r. ⌜ Closed n (nonterminalCount (now (card .entry))) room
+        (build room (grammarOf (now (card .entry))) (wordTest (now (places .entry))) (nonterminalCount (now (card .entry))) n)
+        (now (chart .entry)) (now (chart .exit)) r ⌝ }
 {
     let mut marks = [0u8; 817];
     let mut index = [0u16; 2448];
@@ -171,7 +217,7 @@ fn build_sixteen_few(
     let mut sets = [0u64; 306];
     build_with(
         card,
-        words,
+        places,
         n,
         room,
         chart,
@@ -182,9 +228,17 @@ fn build_sixteen_few(
     )
 }
 
-fn build_long_few(card: &[u8], words: &[u8; 24], n: usize, room: usize, chart: &mut [u8]) -> usize
-    requires { ⌜ Buildable (now card) (now words) n × RoomLent room (now chart) × (nonterminalCount (now card) ≤ 6) ⌝ }
-    ensures { λ r. ⌜ Closed n (nonterminalCount (now (card .entry))) room (build room (grammarOf (now (card .entry))) (wordIs (take n (now (words .entry)))) (nonterminalCount (now (card .entry))) n) (now (chart .entry)) (now (chart .exit)) r ⌝ }
+fn build_long_few(
+    card: &[u8],
+    places: &[u32; MOST_WORDS],
+    n: usize,
+    room: usize,
+    chart: &mut [u8],
+) -> usize
+    requires { ⌜ Buildable (now card) (now places) n × RoomLent room (now chart) × (nonterminalCount (now card) ≤ 6) ⌝ }
+    ensures { λ r. ⌜ Closed n (nonterminalCount (now (card .entry))) room
+        (build room (grammarOf (now (card .entry))) (wordTest (now (places .entry))) (nonterminalCount (now (card .entry))) n)
+        (now (chart .entry)) (now (chart .exit)) r ⌝ }
 {
     let mut marks = [0u8; 1801];
     let mut index = [0u16; 5400];
@@ -192,7 +246,7 @@ fn build_long_few(card: &[u8], words: &[u8; 24], n: usize, room: usize, chart: &
     let mut sets = [0u64; 650];
     build_with(
         card,
-        words,
+        places,
         n,
         room,
         chart,
@@ -203,9 +257,17 @@ fn build_long_few(card: &[u8], words: &[u8; 24], n: usize, room: usize, chart: &
     )
 }
 
-fn build_long(card: &[u8], words: &[u8; 24], n: usize, room: usize, chart: &mut [u8]) -> usize
-    requires { ⌜ Buildable (now card) (now words) n × RoomLent room (now chart) ⌝ }
-    ensures { λ r. ⌜ Closed n (nonterminalCount (now (card .entry))) room (build room (grammarOf (now (card .entry))) (wordIs (take n (now (words .entry)))) (nonterminalCount (now (card .entry))) n) (now (chart .entry)) (now (chart .exit)) r ⌝ }
+fn build_long(
+    card: &[u8],
+    places: &[u32; MOST_WORDS],
+    n: usize,
+    room: usize,
+    chart: &mut [u8],
+) -> usize
+    requires { ⌜ Buildable (now card) (now places) n × RoomLent room (now chart) ⌝ }
+    ensures { λ r. ⌜ Closed n (nonterminalCount (now (card .entry))) room
+        (build room (grammarOf (now (card .entry))) (wordTest (now (places .entry))) (nonterminalCount (now (card .entry))) n)
+        (now (chart .entry)) (now (chart .exit)) r ⌝ }
 {
     let mut marks = [0u8; 4801];
     let mut index = [0u16; 14400];
@@ -213,7 +275,7 @@ fn build_long(card: &[u8], words: &[u8; 24], n: usize, room: usize, chart: &mut 
     let mut sets = [0u64; 650];
     build_with(
         card,
-        words,
+        places,
         n,
         room,
         chart,
@@ -224,37 +286,45 @@ fn build_long(card: &[u8], words: &[u8; 24], n: usize, room: usize, chart: &mut 
     )
 }
 
-pub fn build_in(card: &[u8], words: &[u8; 24], n: usize, room: usize, chart: &mut [u8]) -> usize
-    requires { ⌜ Buildable (now card) (now words) n × RoomLent room (now chart) ⌝ }
-    ensures { λ r. ⌜ Closed n (nonterminalCount (now (card .entry))) room (build room (grammarOf (now (card .entry))) (wordIs (take n (now (words .entry)))) (nonterminalCount (now (card .entry))) n) (now (chart .entry)) (now (chart .exit)) r ⌝ }
+pub fn build_in(
+    card: &[u8],
+    places: &[u32; MOST_WORDS],
+    n: usize,
+    room: usize,
+    chart: &mut [u8],
+) -> usize
+    requires { ⌜ Buildable (now card) (now places) n × RoomLent room (now chart) ⌝ }
+    ensures { λ r. ⌜ Closed n (nonterminalCount (now (card .entry))) room
+        (build room (grammarOf (now (card .entry))) (wordTest (now (places .entry))) (nonterminalCount (now (card .entry))) n)
+        (now (chart .entry)) (now (chart .exit)) r ⌝ }
 {
     let symbols = Card::of(card).nonterminals;
     if n <= 4 {
         if symbols <= 6 {
-            return build_least(card, words, n, room, chart);
+            return build_least(card, places, n, room, chart);
         }
     }
     if n <= 8 {
         if symbols <= 6 {
-            return build_eight_few(card, words, n, room, chart);
+            return build_eight_few(card, places, n, room, chart);
         }
     }
     if n <= 6 {
-        return build_short(card, words, n, room, chart);
+        return build_short(card, places, n, room, chart);
     }
     if n <= 12 {
         if symbols <= 6 {
-            return build_middle_few(card, words, n, room, chart);
+            return build_middle_few(card, places, n, room, chart);
         }
-        return build_middle(card, words, n, room, chart);
+        return build_middle(card, places, n, room, chart);
     }
     if n <= 16 {
         if symbols <= 6 {
-            return build_sixteen_few(card, words, n, room, chart);
+            return build_sixteen_few(card, places, n, room, chart);
         }
     }
     if symbols <= 6 {
-        return build_long_few(card, words, n, room, chart);
+        return build_long_few(card, places, n, room, chart);
     }
-    build_long(card, words, n, room, chart)
+    build_long(card, places, n, room, chart)
 }

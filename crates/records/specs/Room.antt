@@ -11,6 +11,8 @@ use Rattle.grammar.specs.Items.{Foot, bare, foot}
 use Rattle.grammar.specs.ItemList.{item, among}
 use Rattle.grammar.specs.Chart.{Record, recorded, itemOf}
 use Rattle.layout.specs.Bytes.{byteAt, number16At, lowByte, highByte}
+use Rattle.layout.specs.Card.{maxNonterminals, maxIndices}
+use Rattle.layout.specs.Line.{mostWords}
 pub use Rattle.layout.specs.Records.{recordBytes, chartBytes, asFoot, footThere, recordAt, chartIn}
 use Rattle.chart_model.specs.Build.{footAt, addEach}
 use Rattle.records.specs.declared.record.Cell.{Cell}
@@ -43,7 +45,7 @@ Writable f = f .index ≡ 0 → (f .symbol ≡ 255) × (f .from ≡ 0) × (f .to
 -- Feet whose parts lie within n words and N nonterminals.
 abbrev pub FootFits : ℕ → ℕ → Foot → Type 0
 FootFits n N bare = Unit {0}
-FootFits n N (foot γ B p q) = (1 ≤ γ) × (γ ≤ 8) × (B < N) × (p < q) × (q ≤ n)
+FootFits n N (foot γ B p q) = (1 ≤ γ) × (γ ≤ maxIndices) × (B < N) × (p < q) × (q ≤ n)
 
 abbrev pub FeetFit : ℕ → ℕ → List Record → Type 0
 FeetFit n N c = (m : ℕ) → m < length c → FootFits n N (footAt c m)
@@ -90,8 +92,8 @@ Marked n N A i j c marks = (φ : Foot) → FootFits n N φ → markOf n N marks 
 
 -- A cell is being filled: the room, its count and the marks agree.
 pub record Working (n N room A i j : ℕ) (chart marks : List ℕ) (count : ℕ) : Type 0 where
-  pub wordsFit : n ≤ 24
-  pub symbolsFit : N ≤ 16
+  pub wordsFit : n ≤ mostWords
+  pub symbolsFit : N ≤ maxNonterminals
   pub roomSmall : room ≤ 65535
   pub roomThere : 16 * room ≤ length chart
   pub marksThere : spans n * N < length marks
