@@ -1,4 +1,4 @@
-// The tables beside the room, on the stack. Their sizes go by the words and by whether the card has at most 6 nonterminals, so that
+// The tables beside the room, on the stack. Their sizes go by the words and by whether the card has few nonterminals, so that
 // clearing them costs little where little is needed.
 use crate::sets::BOUNDS;
 use crate::sets::SETS;
@@ -12,6 +12,22 @@ ghost use Rattle.layout.specs.Card.{grammarOf, nonterminalCount};
 ghost use Rattle.chart_model.specs.Build.{build};
 ghost use Rattle.chart.specs.Built.{Buildable, RoomLent, TablesLent};
 ghost use Rattle.chart.specs.Fill.{Closed};
+
+// Few nonterminals.
+const FEW: usize = 6;
+
+// The spans of 4 words, of 6, and so on.
+const SPANS_4: usize = 10;
+
+const SPANS_6: usize = 21;
+
+const SPANS_8: usize = 36;
+
+const SPANS_12: usize = 78;
+
+const SPANS_16: usize = 136;
+
+const SPANS_MOST: usize = MOST_WORDS * (MOST_WORDS + 1) / 2;
 
 // With tables that are all 0 and long enough.
 fn build_with(
@@ -66,10 +82,10 @@ fn build_least(
         (build room (grammarOf (now (card .entry))) (wordTest (now (places .entry))) (nonterminalCount (now (card .entry))) n)
         (now (chart .entry)) (now (chart .exit)) r ⌝ }
 {
-    let mut marks = [0u8; 61];
-    let mut index = [0u16; 180];
-    let mut covers = [0u16; 60];
-    let mut sets = [0u64; 30];
+    let mut marks = [0u8; SPANS_4 * FEW + 1];
+    let mut index = [0u16; 3 * SPANS_4 * FEW];
+    let mut covers = [0u16; SPANS_4 * FEW];
+    let mut sets = [0u64; 2 * SPANS_4 + 2 * (4 + 1)];
     build_with(
         card,
         places,
@@ -95,10 +111,10 @@ fn build_short(
         (build room (grammarOf (now (card .entry))) (wordTest (now (places .entry))) (nonterminalCount (now (card .entry))) n)
         (now (chart .entry)) (now (chart .exit)) r ⌝ }
 {
-    let mut marks = [0u8; 337];
-    let mut index = [0u16; 1008];
-    let mut covers = [0u16; 336];
-    let mut sets = [0u64; 56];
+    let mut marks = [0u8; SPANS_6 * Card::MAX_NONTERMINALS + 1];
+    let mut index = [0u16; 3 * SPANS_6 * Card::MAX_NONTERMINALS];
+    let mut covers = [0u16; SPANS_6 * Card::MAX_NONTERMINALS];
+    let mut sets = [0u64; 2 * SPANS_6 + 2 * (6 + 1)];
     build_with(
         card,
         places,
@@ -124,10 +140,10 @@ fn build_eight_few(
         (build room (grammarOf (now (card .entry))) (wordTest (now (places .entry))) (nonterminalCount (now (card .entry))) n)
         (now (chart .entry)) (now (chart .exit)) r ⌝ }
 {
-    let mut marks = [0u8; 217];
-    let mut index = [0u16; 648];
-    let mut covers = [0u16; 216];
-    let mut sets = [0u64; 90];
+    let mut marks = [0u8; SPANS_8 * FEW + 1];
+    let mut index = [0u16; 3 * SPANS_8 * FEW];
+    let mut covers = [0u16; SPANS_8 * FEW];
+    let mut sets = [0u64; 2 * SPANS_8 + 2 * (8 + 1)];
     build_with(
         card,
         places,
@@ -153,10 +169,10 @@ fn build_middle_few(
         (build room (grammarOf (now (card .entry))) (wordTest (now (places .entry))) (nonterminalCount (now (card .entry))) n)
         (now (chart .entry)) (now (chart .exit)) r ⌝ }
 {
-    let mut marks = [0u8; 469];
-    let mut index = [0u16; 1404];
-    let mut covers = [0u16; 468];
-    let mut sets = [0u64; 182];
+    let mut marks = [0u8; SPANS_12 * FEW + 1];
+    let mut index = [0u16; 3 * SPANS_12 * FEW];
+    let mut covers = [0u16; SPANS_12 * FEW];
+    let mut sets = [0u64; 2 * SPANS_12 + 2 * (12 + 1)];
     build_with(
         card,
         places,
@@ -182,10 +198,10 @@ fn build_middle(
         (build room (grammarOf (now (card .entry))) (wordTest (now (places .entry))) (nonterminalCount (now (card .entry))) n)
         (now (chart .entry)) (now (chart .exit)) r ⌝ }
 {
-    let mut marks = [0u8; 1249];
-    let mut index = [0u16; 3744];
-    let mut covers = [0u16; 1248];
-    let mut sets = [0u64; 182];
+    let mut marks = [0u8; SPANS_12 * Card::MAX_NONTERMINALS + 1];
+    let mut index = [0u16; 3 * SPANS_12 * Card::MAX_NONTERMINALS];
+    let mut covers = [0u16; SPANS_12 * Card::MAX_NONTERMINALS];
+    let mut sets = [0u64; 2 * SPANS_12 + 2 * (12 + 1)];
     build_with(
         card,
         places,
@@ -211,10 +227,10 @@ fn build_sixteen_few(
         (build room (grammarOf (now (card .entry))) (wordTest (now (places .entry))) (nonterminalCount (now (card .entry))) n)
         (now (chart .entry)) (now (chart .exit)) r ⌝ }
 {
-    let mut marks = [0u8; 817];
-    let mut index = [0u16; 2448];
-    let mut covers = [0u16; 816];
-    let mut sets = [0u64; 306];
+    let mut marks = [0u8; SPANS_16 * FEW + 1];
+    let mut index = [0u16; 3 * SPANS_16 * FEW];
+    let mut covers = [0u16; SPANS_16 * FEW];
+    let mut sets = [0u64; 2 * SPANS_16 + 2 * (16 + 1)];
     build_with(
         card,
         places,
@@ -240,10 +256,10 @@ fn build_long_few(
         (build room (grammarOf (now (card .entry))) (wordTest (now (places .entry))) (nonterminalCount (now (card .entry))) n)
         (now (chart .entry)) (now (chart .exit)) r ⌝ }
 {
-    let mut marks = [0u8; 1801];
-    let mut index = [0u16; 5400];
-    let mut covers = [0u16; 1800];
-    let mut sets = [0u64; 650];
+    let mut marks = [0u8; SPANS_MOST * FEW + 1];
+    let mut index = [0u16; 3 * SPANS_MOST * FEW];
+    let mut covers = [0u16; SPANS_MOST * FEW];
+    let mut sets = [0u64; 2 * SPANS_MOST + 2 * (MOST_WORDS + 1)];
     build_with(
         card,
         places,
@@ -269,10 +285,10 @@ fn build_long(
         (build room (grammarOf (now (card .entry))) (wordTest (now (places .entry))) (nonterminalCount (now (card .entry))) n)
         (now (chart .entry)) (now (chart .exit)) r ⌝ }
 {
-    let mut marks = [0u8; 4801];
-    let mut index = [0u16; 14400];
-    let mut covers = [0u16; 4800];
-    let mut sets = [0u64; 650];
+    let mut marks = [0u8; SPANS_MOST * Card::MAX_NONTERMINALS + 1];
+    let mut index = [0u16; 3 * SPANS_MOST * Card::MAX_NONTERMINALS];
+    let mut covers = [0u16; SPANS_MOST * Card::MAX_NONTERMINALS];
+    let mut sets = [0u64; 2 * SPANS_MOST + 2 * (MOST_WORDS + 1)];
     build_with(
         card,
         places,
@@ -300,12 +316,12 @@ pub fn build_in(
 {
     let symbols = Card::of(card).nonterminals;
     if n <= 4 {
-        if symbols <= 6 {
+        if symbols <= FEW {
             return build_least(card, places, n, room, chart);
         }
     }
     if n <= 8 {
-        if symbols <= 6 {
+        if symbols <= FEW {
             return build_eight_few(card, places, n, room, chart);
         }
     }
@@ -313,17 +329,17 @@ pub fn build_in(
         return build_short(card, places, n, room, chart);
     }
     if n <= 12 {
-        if symbols <= 6 {
+        if symbols <= FEW {
             return build_middle_few(card, places, n, room, chart);
         }
         return build_middle(card, places, n, room, chart);
     }
     if n <= 16 {
-        if symbols <= 6 {
+        if symbols <= FEW {
             return build_sixteen_few(card, places, n, room, chart);
         }
     }
-    if symbols <= 6 {
+    if symbols <= FEW {
         return build_long_few(card, places, n, room, chart);
     }
     build_long(card, places, n, room, chart)
