@@ -1,5 +1,6 @@
 -- Bits of a number, for sets of small numbers.
-use Prim.Native.Nat.{ℕ, zero, suc, _/_, _%_}
+use Prim.Native.Nat.{ℕ, zero, suc, _/_, _%_, _<_}
+use mathlib.Core.Path.{_≡_}
 use mathlib.Core.Bool.{Bool}
 use lib.Dec.{eqb}
 
@@ -10,3 +11,14 @@ bitOf (suc b) x = bitOf b (x / 2)
 -- Is b in the set x?
 abbrev pub holdsBit : ℕ → ℕ → Bool
 holdsBit b x = eqb (bitOf b x) 1
+
+-- The least number of a set, which is below 64; and a set without one of its numbers.
+pub record Least (set k : ℕ) : Type 0 where
+  pub small : k < 64
+  pub has : bitOf k set ≡ 1
+  pub first : (q : ℕ) → q < k → bitOf q set ≡ 0
+
+pub record Without (set k rest : ℕ) : Type 0 where
+  pub gone : bitOf k rest ≡ 0
+  pub kept : (q : ℕ) → (q ≡ k → ⊥) → bitOf q rest ≡ bitOf q set
+  pub less : rest < set

@@ -1,7 +1,7 @@
 // Sets of small numbers, as the bits of one number.
 ghost use mathlib.Core.Path.{_≡_};
 ghost use Prim.Native.Nat.{_<_, _^_};
-ghost use Rattle.bits.specs.Bits.{holdsBit};
+ghost use Rattle.bits.specs.Bits.{bitOf, holdsBit, Least, Without};
 
 // Is a number in a set of numbers below 32?
 pub fn has(set: u32, b: u8) -> bool
@@ -19,4 +19,20 @@ pub fn one(b: usize) -> u32
     ensures { λ r. ⌜ r ≡ 2 ^ b ⌝ }
 {
     1u32 << b
+}
+
+// The least number of a set of numbers below 64 that is not empty.
+pub fn least(set: u64) -> usize
+    requires { ⌜ (set ≡ 0 → ⊥) ⌝ }
+    ensures { λ r. ⌜ Least set r ⌝ }
+{
+    u64::trailing_zeros(set) as usize
+}
+
+// The set without a number that it has.
+pub fn without(set: u64, k: usize) -> u64
+    requires { ⌜ (k < 64) × (bitOf k set ≡ 1) ⌝ }
+    ensures { λ r. ⌜ Without set k r ⌝ }
+{
+    set - (1u64 << k)
 }

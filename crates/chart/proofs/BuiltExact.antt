@@ -3,19 +3,21 @@
 use Prim.Native.Nat.{ℕ, _+_, _*_, _≤_, _<_}
 use native.Mathlib.Omega.{arith}
 use native.Mathlib.Nat.{mul-le-mul}
-use mathlib.Core.Path.{_≡_, refl, sym, _∙_, ap, ap₂, subst, subst₂}
+use mathlib.Core.Path.{_≡_, refl, sym, _∙_, ap, ap₂, subst}
+use mathlib.Core.Bool.{Bool}
 use mathlib.Core.List.{List, _++_}
 use mathlib.Core.Option.{Option, none, some}
-use lib.ListN.{length, take, drop, getD, replicate, length-take, length-replicate}
+use lib.ListN.{length, take, drop, getD, replicate, length-replicate}
 use lib.Seq.{take-at, drop-at}
 use Rattle.grammar.specs.Rewriting.{Rule}
-use Rattle.grammar.specs.Input.{Holds, Below, wordIs}
+use Rattle.grammar.specs.Input.{Holds}
 use Rattle.grammar.specs.ItemList.{items}
 use Rattle.grammar.specs.Chart.{Record, IsChart}
-use Rattle.grammar.proofs.InputLaws.{words-below}
-use Rattle.layout.specs.Card.{nonterminalCount, productionCount, grammarOf}
+use Rattle.layout.specs.Card.{nonterminalCount, grammarOf}
 use Rattle.layout.specs.Records.{chartBytes, capacity}
+use Rattle.layout.proofs.Accepting.{accepted-counts}
 use Rattle.layout.proofs.CardLaws.{card-one-sided}
+use Rattle.places.specs.Places.{wordTest}
 use Rattle.records.specs.Room.{chartIn, numberedChart, numbersCleared}
 use Rattle.records.specs.Index.{spans}
 use Rattle.records.proofs.RoomLaws.{numbered-chart-length}
@@ -24,23 +26,23 @@ use Rattle.records.proofs.TableLaws.{spans-more}
 use Rattle.chart_model.specs.Build.{build}
 use Rattle.chart_model.proofs.Exact.{build-chart, build-room, build-none}
 use Rattle.chart.specs.declared.Built.the-variants.{Chart, TooMany}
-use Rattle.chart.specs.Tables.{grammarIn}
 use Rattle.chart.specs.Fill.{Between, Closed}
-use Rattle.chart.specs.Built.{Buildable, RoomLent, TablesLent, DecodedAll, BuiltRoom}
+use Rattle.chart.specs.Built.{Buildable, RoomLent, TablesLent, BuiltRoom}
 use Rattle.chart.proofs.SetLaws.{zero-at}
 use Rattle.chart.proofs.RowLaws.{rows-none}
 use Rattle.chart.proofs.FillLaws.{start-between}
-use Rattle.chart.proofs.CardFits.{counts-fit, lefts-below}
+use Rattle.chart.proofs.CardFits.{lefts-below}
 
 all-zero : (l : List ℕ) → l ≡ replicate (length l) 0 → (k : ℕ) → getD l k 0 ≡ 0
 all-zero l e k = ap (λ (m : List ℕ). getD m k 0) e ∙ zero-at (length l) k
 
-pub tables-start : {g : List Rule} (card words : List ℕ) (n room : ℕ) {chart marks index covers sets : List ℕ} → Buildable card words n
+pub tables-start : {g : List Rule} (card places : List ℕ) (n room : ℕ) {chart marks index covers sets : List ℕ} → Buildable card places n
     → RoomLent room chart → TablesLent n (nonterminalCount card) marks index sets covers
     → Between g n (nonterminalCount card) room chart marks index covers sets 0
-tables-start card words n room {marks = marks} {index = index} {sets = sets} b l t =
-    start-between (b .short) (counts-fit card (b .accepted) .symbols .1) (l .small) (l .there) (t .marksThere) (t .indexThere)
-    (rows-none n sets (t .setsThere) (all-zero sets (t .setsZero))) (all-zero marks (t .marksZero)) (all-zero index (t .indexZero)) (t .coversThere) (t .coversZero)
+tables-start card places n room {marks = marks} {index = index} {sets = sets} b l t =
+    start-between (b .short) (accepted-counts card (b .accepted) .fewNonterminals) (l .small) (l .there) (t .marksThere) (t .indexThere)
+    (rows-none n sets (t .setsThere) (all-zero sets (t .setsZero))) (all-zero marks (t .marksZero)) (all-zero index (t .indexZero)) (t .coversThere)
+    (t .coversZero)
 
 -- Tables of zeros that are long enough for m words and M nonterminals are so for fewer.
 pub tables-lent : (n N m M a b c d : ℕ) → n ≤ m → N ≤ M → spans m * M < a → 3 * (spans m * M) ≤ b → 2 * spans m + 2 * (m + 1) ≤ c → spans m * M ≤ d
@@ -63,11 +65,10 @@ tables-lent n N m M a b c d h k x y z w =
       coversThere = omega arith;
     }
 
-pub closed-as : {many many′ N N′ after : ℕ} {old new : List ℕ} (room n : ℕ) (rules : List ℕ) (words : List ℕ) → many ≡ many′ → N ≡ N′
-    → Closed n N room (build room (grammarIn rules many) (wordIs (take n words)) N n) old new after
-    → Closed n N′ room (build room (grammarIn rules many′) (wordIs (take n words)) N′ n) old new after
-closed-as {after = after} {old = old} {new = new} room n rules words e f c =
-    subst₂ (λ (k l : ℕ). Closed n l room (build room (grammarIn rules k) (wordIs (take n words)) l n) old new after) e f c
+pub closed-as : {N N′ after : ℕ} {old new : List ℕ} (room n : ℕ) (g : List Rule) (at : ℕ → ℕ → Bool) → N ≡ N′
+    → Closed n N room (build room g at N n) old new after → Closed n N′ room (build room g at N′ n) old new after
+closed-as {after = after} {old = old} {new = new} room n g at e c =
+    subst (λ (k : ℕ). Closed n k room (build room g at k n) old new after) e c
 
 -- A room that holds a chart with numbers holds the finished chart once they are cleared.
 finished : {after : ℕ} {c : List Record} {new : List ℕ} (n N : ℕ) (old : List ℕ) → after ≡ length c → c ≡ chartIn new after
@@ -80,18 +81,9 @@ finished {after} {c} {new} n N old same read written =
     cleared-chart n N new after exact
     ∙ ap₂ _++_ (ap chartBytes (sym read)) (ap (drop (16 * after)) written ∙ drop-at (numberedChart n N c) rest (16 * after) long)
 
-module _ (card words : List ℕ) (n room : ℕ) (b : Buildable card words n) where
+module _ (card places : List ℕ) (n room : ℕ) (b : Buildable card places n) where
   abbrev result : Option (List Record)
-  result = build room (grammarOf card) (wordIs (take n words)) (nonterminalCount card) n
-
-  below : Below (Holds (wordIs (take n words))) n
-  below i w h = omega (arith, words-below (take n words) i w h, length-take n words)
-
-  pub closed-decoded : {old new : List ℕ} {after : ℕ} (rules : List ℕ) → DecodedAll card (productionCount card) rules
-      → Closed n (nonterminalCount card) room (build room (grammarIn rules (productionCount card)) (wordIs (take n words)) (nonterminalCount card) n) old new after
-      → Closed n (nonterminalCount card) room result old new after
-  closed-decoded {old} {new} {after} rules d c =
-      subst (λ (g : List Rule). Closed n (nonterminalCount card) room (build room g (wordIs (take n words)) (nonterminalCount card) n) old new after) (d .decoded) c
+  result = build room (grammarOf card) (wordTest places) (nonterminalCount card) n
 
   -- The model's two results.
   decided : {old new : List ℕ} {after : ℕ} (s : Option (List Record)) → result ≡ s → Closed n (nonterminalCount card) room result old new after
@@ -99,27 +91,32 @@ module _ (card words : List ℕ) (n room : ℕ) (b : Buildable card words n) whe
   decided s e c =
       let one = card-one-sided card in
       let lefts = lefts-below card (b .accepted) in (
-        λ k f. omega (arith, c .charted k (e ∙ f) .0, build-room room (nonterminalCount card) n (grammarOf card) (wordIs (take n words)) one below lefts (e ∙ f)),
+        λ k f. omega (
+          arith,
+          c .charted k (e ∙ f) .0,
+          build-room room (nonterminalCount card) n (grammarOf card) (wordTest places) one
+              (b .below) lefts (e ∙ f),
+        ),
         λ f. c .over (e ∙ f),
       )
 
   pub over-room : {old new : List ℕ} {after : ℕ} → Closed n (nonterminalCount card) room result old new after → room < after
-      → room < length (items (grammarOf card) (wordIs (take n words)) n)
+      → room < length (items (grammarOf card) (wordTest places) n)
   over-room {old} {new} {after} c h = go result refl
     where
-      go : (s : Option (List Record)) → result ≡ s → room < length (items (grammarOf card) (wordIs (take n words)) n)
+      go : (s : Option (List Record)) → result ≡ s → room < length (items (grammarOf card) (wordTest places) n)
       go none e =
-          build-none room (nonterminalCount card) n (grammarOf card) (wordIs (take n words)) (card-one-sided card) below
+          build-none room (nonterminalCount card) n (grammarOf card) (wordTest places) (card-one-sided card) (b .below)
           (lefts-below card (b .accepted)) e
       go (some k) e = absurd (omega (arith, decided (some k) e c .0 k refl))
 
   pub within-room : {old new : List ℕ} {after : ℕ} → Closed n (nonterminalCount card) room result old new after → after ≤ room
-      → (c : List Record) × IsChart (grammarOf card) (Holds (wordIs (take n words))) c × (after ≡ length c) × (length c ≤ room)
+      → (c : List Record) × IsChart (grammarOf card) (Holds (wordTest places)) c × (after ≡ length c) × (length c ≤ room)
       × (numbersCleared after new ≡ chartBytes c ++ drop (16 * length c) old)
   within-room {old} {new} {after} c h = go result refl
     where
       go : (s : Option (List Record)) → result ≡ s
-          → (c : List Record) × IsChart (grammarOf card) (Holds (wordIs (take n words))) c × (after ≡ length c) × (length c ≤ room)
+          → (c : List Record) × IsChart (grammarOf card) (Holds (wordTest places)) c × (after ≡ length c) × (length c ≤ room)
           × (numbersCleared after new ≡ chartBytes c ++ drop (16 * length c) old)
       go none e = absurd (omega (arith, decided none e c .1 refl))
       go (some k) e =
@@ -127,23 +124,23 @@ module _ (card words : List ℕ) (n room : ℕ) (b : Buildable card words n) whe
           let lefts = lefts-below card (b .accepted) in
           let (same, read, written) = c .charted k e in (
             k,
-            build-chart room (nonterminalCount card) n (grammarOf card) (wordIs (take n words)) one below lefts e,
+            build-chart room (nonterminalCount card) n (grammarOf card) (wordTest places) one (b .below) lefts e,
             same,
-            build-room room (nonterminalCount card) n (grammarOf card) (wordIs (take n words)) one below lefts e,
+            build-room room (nonterminalCount card) n (grammarOf card) (wordTest places) one (b .below) lefts e,
             finished n (nonterminalCount card) old same read written,
           )
 
-module _ {card words old new : List ℕ} {n room after : ℕ} (b : Buildable card words n) (own : room ≡ capacity (length old))
-    (c : Closed n (nonterminalCount card) room (build room (grammarOf card) (wordIs (take n words)) (nonterminalCount card) n) old new after) where
+module _ {card places old new : List ℕ} {n room after : ℕ} (b : Buildable card places n) (own : room ≡ capacity (length old))
+    (c : Closed n (nonterminalCount card) room (build room (grammarOf card) (wordTest places) (nonterminalCount card) n) old new after) where
   pub built-over : {cleared : List ℕ} → room < after → cleared ≡ replicate (length new) 0
-      → BuiltRoom card (take n words) n TooMany old cleared
+      → BuiltRoom card (wordTest places) n TooMany old cleared
   built-over h e = (
-    subst (λ (k : ℕ). k < length (items (grammarOf card) (wordIs (take n words)) n)) own (over-room card words n room b c h),
+    subst (λ (k : ℕ). k < length (items (grammarOf card) (wordTest places) n)) own (over-room card places n room b c h),
     e ∙ ap (λ (k : ℕ). replicate k 0) (c .sameRoom),
   )
 
   pub built-within : {cleared : List ℕ} → after ≤ room → cleared ≡ numbersCleared after new
-      → BuiltRoom card (take n words) n (Chart after) old cleared
+      → BuiltRoom card (wordTest places) n (Chart after) old cleared
   built-within h e =
-      let (k, chart, same, fits, written) = within-room card words n room b c h in
+      let (k, chart, same, fits, written) = within-room card places n room b c h in
       (k, chart, same, subst (λ (m : ℕ). length k ≤ m) own fits, e ∙ written)

@@ -12,46 +12,30 @@ use mathlib.Core.List.{List, [], _∷_, _++_, append-nil}
 use mathlib.Core.Option.{Option, none, some}
 use lib.Bits.{bitOr}
 use lib.Dec.{eqb}
-use lib.ListN.{length, getD, getElem?, take, length-take}
+use lib.ListN.{length, getD, getElem?}
 use borrow.Author.Tests.{eq-eqb, ne-eqb}
 use Rattle.grammar.specs.Lists.{only}
 use Rattle.grammar.specs.Rewriting.{Rule, Lexical, Spine}
 use Rattle.grammar.specs.Items.{bare}
 use Rattle.grammar.specs.ItemList.{item}
 use Rattle.grammar.specs.Chart.{Record, recorded, nowhere}
+use Rattle.layout.specs.Card.{maxNonterminals}
+use Rattle.layout.specs.Line.{mostWords}
 use Rattle.card.specs.Productions.{ruleFrom}
 use Rattle.card.specs.declared.Production.{Production}
 use Rattle.card.specs.declared.Production.the-variants.{Word}
 use Rattle.chart_model.specs.Build.{flatUp, barePlaces, byRule, dependentFirst, turned, ruleAt, byWord, byRuleOver, byProduction, candidates}
 use Rattle.chart_model.proofs.BuildLaws.{turned-within, turned-twice}
-use Rattle.records.specs.Bits.{bitOf}
+use Rattle.bits.specs.Bits.{bitOf, holdsBit, Least, Without}
 use Rattle.records.specs.Room.{chartIn, footNumber}
 use Rattle.records.specs.Index.{spans, Indexed}
-use Rattle.chart.specs.Tables.{FirstAbsent, SecondAbsent, leftIs, packedRule, rulesFrom, grammarIn, byOne, chosen, CellSet, thisWord, isWordOf, Least, Without, Splits, Turns}
+use Rattle.chart.specs.Tables.{FirstAbsent, SecondAbsent, leftIs, chosen, CellSet, oneOf, isWordOf, Splits, Turns}
 use Rattle.chart_model.proofs.Absent.{concatMap-none, flatUp-none, choice-none, action-none}
 use Rattle.steps.proofs.StepLaws.{flatUp-add}
 use Rattle.steps.proofs.StepCover.{Advancing, advance-skip}
 use Rattle.records.proofs.TableLaws.{spans-twice}
-use Rattle.records.proofs.BitLaws.{bitOf-below, bitOf-zero, bitOf-or, bitOf-power, bitOf-other}
-use Rattle.chart.proofs.BitSets.{or-bits, without-has, without-lacks, bit-one, Walk, walk-has, walk-passed, walk-end}
-
--- Rules: the one at a place, and the first `many`.
-pub rule-there : (rules : List ℕ) (p : ℕ) → p < length rules
-    → getElem? (rulesFrom rules) p ≡ some (packedRule (getD rules p 0))
-rule-there [] p h = absurd (omega arith)
-rule-there (w ∷ rules) zero h = refl
-rule-there (w ∷ rules) (suc p) h = rule-there rules p (omega arith)
-
-pub getElem-take : {A : Type 0} (m : ℕ) (l : List A) (p : ℕ) → p < m → getElem? (take m l) p ≡ getElem? l p
-getElem-take zero l p h = absurd (omega arith)
-getElem-take (suc m) [] p h = refl
-getElem-take (suc m) (x ∷ l) zero h = refl
-getElem-take (suc m) (x ∷ l) (suc p) h = getElem-take m l p (omega arith)
-
--- Production p of the first `many`.
-pub grammar-there : (rules : List ℕ) (many p : ℕ) → p < many → p < length rules
-    → getElem? (grammarIn rules many) p ≡ some (packedRule (getD rules p 0))
-grammar-there rules many p a b = getElem-take many (rulesFrom rules) p a ∙ rule-there rules p b
+use Rattle.bits.proofs.BitLaws.{bitOf-below, bitOf-zero, bitOf-or, bitOf-power, bitOf-other}
+use Rattle.bits.proofs.BitSets.{or-bits, without-has, without-lacks, bit-one, Walk, walk-has, walk-passed, walk-end}
 
 -- A rule that adds nothing.
 pub absent-first : (b : List Record) (A i k j p : ℕ) (r : Rule) → FirstAbsent b i k r → byRule b A i k j p r ≡ []
@@ -191,30 +175,29 @@ pub turns-end : {both : List ℕ} {splits p sum rest turns : ℕ} {back : Bool} 
 turns-end t z = record { has = λ k o. t .has k o (ap (bitOf k) z ∙ bitOf-zero k); only = t .only }
 
 -- What a set chooses: the rule of p where its bit is set, and nothing where it is not.
-module _ (set : ℕ) (rules : List ℕ) (at : ℕ → ℕ → Bool) (b : List Record) (A i len : ℕ) where
-  chosen-has : (p : ℕ) → bitOf p set ≡ 1 → chosen set rules at b A i len p ≡ byOne at b A i len p (getElem? (rulesFrom rules) p)
+module _ (set : ℕ) (g : List Rule) (at : ℕ → ℕ → Bool) (b : List Record) (A i len : ℕ) where
+  chosen-has : (p : ℕ) → bitOf p set ≡ 1 → chosen set g at b A i len p ≡ byProduction g at b A i len p
   chosen-has p e = rw (eq-eqb (bitOf p set) 1 e)
 
-  chosen-lacks : (p : ℕ) → (bitOf p set ≡ 1 → ⊥) → chosen set rules at b A i len p ≡ []
+  chosen-lacks : (p : ℕ) → (bitOf p set ≡ 1 → ⊥) → chosen set g at b A i len p ≡ []
   chosen-lacks p h = rw (ne-eqb (bitOf p set) 1 h)
 
   -- The same in a walk over the set: the next number, those passed on the way to it, and those past the last.
   module _ (rest y : ℕ) (walk : Walk set rest y) where
-    pub chosen-next : (p : ℕ) → Least rest p → p < length rules
-        → byRuleOver at b A i len p (packedRule (getD rules p 0)) ≡ chosen set rules at b A i len p
-    chosen-next p least there =
-        sym (ap (byOne at b A i len p) (rule-there rules p there)) ∙ sym (chosen-has p (walk-has walk least))
+    pub chosen-next : (p : ℕ) {r : Rule} → Least rest p → getElem? g p ≡ some r
+        → byRuleOver at b A i len p r ≡ chosen set g at b A i len p
+    chosen-next p least there = sym (chosen-has p (walk-has walk least) ∙ rw (there, byProduction))
 
-    pub chosen-passed : (p : ℕ) → Least rest p → (q : ℕ) → y ≤ q → q < p → chosen set rules at b A i len q ≡ []
+    pub chosen-passed : (p : ℕ) → Least rest p → (q : ℕ) → y ≤ q → q < p → chosen set g at b A i len q ≡ []
     chosen-passed p least q l h = chosen-lacks q (λ o. absurd (omega (arith, walk-passed walk least q l h)))
 
-    pub chosen-after : (q : ℕ) → rest ≡ 0 → y ≤ q → chosen set rules at b A i len q ≡ []
+    pub chosen-after : (q : ℕ) → rest ≡ 0 → y ≤ q → chosen set g at b A i len q ≡ []
     chosen-after q z l = chosen-lacks q (λ o. absurd (omega (arith, walk-end walk z q l)))
 
--- A number of the set is that of one of the first `many` productions.
-pub bit-within : {g : List Rule} {at : ℕ → ℕ → Bool} {b : List Record} {A i len set : ℕ} (many p : ℕ)
-    → CellSet g at b A i len set → length g ≤ many → bitOf p set ≡ 1 → p < many
-bit-within {set = set} many p cell l one = elim (decLt p many) [
+-- A number of the set is that of a production.
+pub bit-within : {g : List Rule} {at : ℕ → ℕ → Bool} {b : List Record} {A i len set : ℕ} (p : ℕ)
+    → CellSet g at b A i len set → bitOf p set ≡ 1 → p < length g
+bit-within {g} p cell one = elim (decLt p (length g)) [
   | yes h ↦ h
   | no h ↦ absurd (omega (arith, cell .noMore p (omega arith)))
 ]
@@ -235,67 +218,46 @@ module _ {n N room A i j base : ℕ} {F : List Record → ℕ → List Record} {
   advance-to p u v empty = advance-at (advance-pass (p - y) (omega arith) (λ q a b. empty q a (omega arith))) (omega arith)
 
 -- The productions of a set that has all that add to a cell add its candidates.
-by-one : (at : ℕ → ℕ → Bool) (b : List Record) (A i len p : ℕ) (o : Option Rule)
-    → byOne at b A i len p o ≡ elim o [ none ↦ [] | some r ↦ byRuleOver at b A i len p r ]
-by-one at b A i len p none = refl
-by-one at b A i len p (some r) = refl
-
-module _ (rules : List ℕ) (many : ℕ) {at : ℕ → ℕ → Bool} {b : List Record} {A i len set : ℕ}
-    (cell : CellSet (grammarIn rules many) at b A i len set) where
-  place-same : (p : ℕ) → p < length (grammarIn rules many)
-      → chosen set rules at b A i len p ≡ byProduction (grammarIn rules many) at b A i len p
-  place-same p h = elim (ℕ-discrete (bitOf p set) 1) [
-    | yes e ↦ chosen-has set rules at b A i len p e ∙ (ap (byOne at b A i len p) (sym there) ∙ by-one at b A i len p rule)
-    | no d ↦ chosen-lacks set rules at b A i len p d
-        ∙ sym (none-there rule λ r s. cell .idle p r s (omega (arith, bitOf-below p set)))
+module _ (g : List Rule) {at : ℕ → ℕ → Bool} {b : List Record} {A i len set : ℕ} (cell : CellSet g at b A i len set) where
+  place-same : (p : ℕ) → chosen set g at b A i len p ≡ byProduction g at b A i len p
+  place-same p = elim (ℕ-discrete (bitOf p set) 1) [
+    | yes e ↦ chosen-has set g at b A i len p e
+    | no d ↦ chosen-lacks set g at b A i len p d
+        ∙ sym (none-there (getElem? g p) λ r s. cell .idle p r s (omega (arith, bitOf-below p set)))
   ]
     where
-      rule : Option Rule
-      rule = getElem? (grammarIn rules many) p
-
-      there : rule ≡ getElem? (rulesFrom rules) p
-      there = getElem-take many (rulesFrom rules) p (omega (arith, length-take many (rulesFrom rules)))
-
       none-there : (o : Option Rule) → ((r : Rule) → o ≡ some r → byRuleOver at b A i len p r ≡ [])
           → _≡_ {A = List Record} (elim o [ none ↦ [] | some r ↦ byRuleOver at b A i len p r ]) []
       none-there none f = refl
       none-there (some r) f = f r refl
 
-  pub all-chosen : (all : ℕ) → many ≤ all
-      → flatUp (chosen set rules at b A i len) 0 all ≡ candidates (grammarIn rules many) at b A i len
+  pub all-chosen : (all : ℕ) → length g ≤ all → flatUp (chosen set g at b A i len) 0 all ≡ candidates g at b A i len
   all-chosen all h =
-      flatUp-end (chosen set rules at b A i len) 0 (length (grammarIn rules many)) all
-      (omega (arith, length-take many (rulesFrom rules)))
-      (λ p l u. chosen-lacks set rules at b A i len p (λ e. absurd (omega (arith, cell .noMore p (omega arith)))))
-      ∙ flatUp-same (chosen set rules at b A i len) (byProduction (grammarIn rules many) at b A i len) 0
-      (length (grammarIn rules many)) (λ p l u. place-same p (omega arith))
+      flatUp-end (chosen set g at b A i len) 0 (length g) all h
+      (λ p l u. chosen-lacks set g at b A i len p (λ e. absurd (omega (arith, cell .noMore p (omega arith)))))
+      ∙ flatUp-same (chosen set g at b A i len) (byProduction g at b A i len) 0 (length g) (λ p l u. place-same p)
 
--- Word productions.
-eqb-turned : (m n : ℕ) → eqb m n ≡ eqb n m
-eqb-turned m n = elim (ℕ-discrete m n) [
-  | yes e ↦ eq-eqb m n e ∙ sym (eq-eqb n m (sym e))
-  | no d ↦ ne-eqb m n d ∙ sym (ne-eqb n m (λ e. d (sym e)))
-]
+-- Word productions, of A or another nonterminal, for a set of words.
+pub other-left : (r : Production) (left word A words : ℕ) → r ≡ Word left word → (left ≡ A → ⊥) → false ≡ isWordOf A words (ruleFrom r)
+other-left r left word A words e d = rw (e, ne-eqb left A d)
 
-pub other-left : (r : Production) (left word A w : ℕ) → r ≡ Word left word → (left ≡ A → ⊥) → false ≡ isWordOf A w (ruleFrom r)
-other-left r left word A w e d = rw (e, ne-eqb left A d)
+pub own-left : {t : Bool} (r : Production) (left word A words : ℕ) → r ≡ Word left word → left ≡ A → t ≡ holdsBit word words
+    → t ≡ isWordOf A words (ruleFrom r)
+own-left r left word A words e o h = h ∙ rw (e, eq-eqb left A o)
 
-pub own-left : (r : Production) (left word A w : ℕ) → r ≡ Word left word → left ≡ A → eqb word w ≡ isWordOf A w (ruleFrom r)
-own-left r left word A w e o = rw (e, eq-eqb left A o) (eqb-turned word w)
+by-word : (words A i p : ℕ) (r : Rule) → byWord (oneOf words) A i p r
+    ≡ only (isWordOf A words r) (recorded (item A i (suc i) bare) p nowhere nowhere nowhere)
+by-word words A i p (Lexical A′ w) = refl
+by-word words A i p (Spine A′ a before D after) = refl
 
-pub by-word : (w A i p : ℕ) (r : Rule) → byWord (thisWord w) A i p r
-    ≡ only (isWordOf A w r) (recorded (item A i (suc i) bare) p nowhere nowhere nowhere)
-by-word w A i p (Lexical A′ w′) = refl
-by-word w A i p (Spine A′ a before D after) = refl
+-- Production p is one of these, or it is not.
+module _ (words A i p : ℕ) (r : Rule) where
+  pub word-one : (j : ℕ) → j ≡ i + 1 → isWordOf A words r ≡ true
+      → recorded (item A i j bare) p nowhere nowhere nowhere ∷ [] ≡ byWord (oneOf words) A i p r
+  word-one j e t = rw (by-word words A i p r, t, e, add-one)
 
--- Production p is the word production of A for w, or it is not.
-module _ (w A i p : ℕ) (r : Rule) where
-  pub word-one : (j : ℕ) → j ≡ i + 1 → isWordOf A w r ≡ true
-      → recorded (item A i j bare) p nowhere nowhere nowhere ∷ [] ≡ byWord (thisWord w) A i p r
-  word-one j e t = rw (by-word w A i p r, t, e, add-one)
-
-  pub word-none : isWordOf A w r ≡ false → [] ≡ byWord (thisWord w) A i p r
-  word-none t = rw (by-word w A i p r, t)
+  pub word-none : isWordOf A words r ≡ false → [] ≡ byWord (oneOf words) A i p r
+  word-none t = rw (by-word words A i p r, t)
 
 -- The bare item's number from the words and the nonterminals, and that computing it needs no large number.
 module _ (n N : ℕ) where
@@ -305,7 +267,7 @@ module _ (n N : ℕ) where
   pub bare-number : N * (n * (n + 1) / 2) * 8 ≡ footNumber n N bare
   bare-number = rw triangle (omega (arith, mul-comm N (spans n)))
 
-  pub bare-small : n ≤ 24 → N ≤ 16 → (n * (n + 1) ≤ 600) × (N * (n * (n + 1) / 2) ≤ 4800)
+  pub bare-small : n ≤ mostWords → N ≤ maxNonterminals → (n * (n + 1) ≤ 600) × (N * (n * (n + 1) / 2) ≤ 4800)
   bare-small h k =
       let few : n + 1 ≤ 25 = omega arith in
       let square : n * (n + 1) ≤ 24 * 25 = mul-le-mul h few in

@@ -4,52 +4,34 @@ use Prim.Native.Nat.{ℕ, zero, suc, _+_, _-_, _*_, _≤_, _<_}
 use native.Mathlib.Nat.{le-refl}
 use native.Mathlib.Omega.{arith}
 use mathlib.Core.Path.{_≡_, refl, sym, _∙_, ap, subst}
-use mathlib.Core.Bool.{Bool, true, false≢true}
+use mathlib.Core.Bool.{Bool}
 use mathlib.Core.List.{List, [], _∷_}
 use mathlib.Core.Option.{Option, some}
-use lib.Dec.{eqb}
-use lib.ListN.{length, getD, take, length-take}
-use borrow.Author.Tests.{eqb-true}
+use lib.ListN.{length, getD}
 use Rattle.grammar.specs.Rewriting.{Rule, Lexical, Spine}
-use Rattle.grammar.specs.Input.{wordIs}
 use Rattle.grammar.specs.Chart.{Record}
+use Rattle.places.specs.Places.{wordTest}
 use Rattle.chart_model.specs.Build.{places, barePlaces, byWord, acrossSplits, byRuleOver, addEach, fillCell}
 use Rattle.chart_model.proofs.FillModel.{IsCell, Grown, same, cell-grown, bareAt, bares-own, fresh-among}
 use Rattle.records.specs.declared.index.Range.{Range}
 use Rattle.records.specs.Room.{chartIn, stateOf}
 use Rattle.records.specs.Index.{cellAt, bareIn, SpanFits}
 use Rattle.records.specs.Cover.{Covered, Advanced}
-use Rattle.chart.specs.Tables.{thisWord, rulesFrom, grammarIn, Finished}
+use Rattle.chart.specs.Tables.{oneOf, Finished}
 use Rattle.chart.specs.Fill.{Classified, Noted, Between, Filled}
 use Rattle.records.proofs.RoomLaws.{chart-length, chart-kept-below}
 use Rattle.records.proofs.CoverLaws.{grown-has, grown-others, end-covered}
 use Rattle.chart.proofs.FillLaws.{state-some, entered, bareFrom-at, bareFrom-le, indexed-more, sorted-more, marks-clear}
 
--- The word at a place of the line.
-pub word-test : (words : List ℕ) (n i w : ℕ) → i < n → i < length words → wordIs (take n words) i w ≡ eqb (getD words i 0) w
-word-test [] n i w a b = absurd (omega arith)
-word-test (x ∷ words) zero i w a b = absurd (omega arith)
-word-test (x ∷ words) (suc n) zero w a b = refl
-word-test (x ∷ words) (suc n) (suc i) w a b = word-test words n i w (omega arith) (omega arith)
-
-pub word-true : (words : List ℕ) (n i w : ℕ) → wordIs (take n words) i w ≡ true → getD words i 0 ≡ w
-word-true [] zero i w t = absurd (false≢true t)
-word-true [] (suc n) i w t = absurd (false≢true t)
-word-true (x ∷ words) zero i w t = absurd (false≢true t)
-word-true (x ∷ words) (suc n) zero w t = eqb-true x w t
-word-true (x ∷ words) (suc n) (suc i) w t = word-true words n i w t
-
 -- What a rule adds to a cell of one word, and of more, as the code finds it.
 module _ (c : List Record) (A i : ℕ) where
-  word-same : (at : ℕ → ℕ → Bool) (w p : ℕ) → ((w′ : ℕ) → at i w′ ≡ eqb w w′) → (r : Rule)
-      → byWord (thisWord w) A i p r ≡ byWord at A i p r
-  word-same at w p e (Lexical A′ w′) = rw (e w′)
-  word-same at w p e (Spine A′ a before D after) = refl
+  word-same : (places : List ℕ) (p : ℕ) (r : Rule) → byWord (oneOf (getD places i 0)) A i p r ≡ byWord (wordTest places) A i p r
+  word-same places p (Lexical A′ w) = refl
+  word-same places p (Spine A′ a before D after) = refl
 
-  pub over-word : (words : List ℕ) (n j k p : ℕ) (r : Rule) → k ≡ i → i < n → i < length words → j - i ≡ 1
-      → byWord (thisWord (getD words k 0)) A i p r ≡ byRuleOver (wordIs (take n words)) c A i (j - i) p r
-  over-word words n j k p r q a b e =
-      rw e (word-same (wordIs (take n words)) (getD words k 0) p (λ w′. rw q (word-test words n i w′ a b)) r)
+  pub over-word : (places : List ℕ) (j k p : ℕ) (r : Rule) → k ≡ i → j - i ≡ 1
+      → byWord (oneOf (getD places k 0)) A i p r ≡ byRuleOver (wordTest places) c A i (j - i) p r
+  over-word places j k p r q e = rw (e, q) (word-same places p r)
 
   pub over-splits : (at : ℕ → ℕ → Bool) (j p : ℕ) (r : Rule) → i < j → (j - i ≡ 1 → ⊥)
       → acrossSplits c A i j p r ≡ byRuleOver at c A i (j - i) p r
@@ -62,9 +44,6 @@ module _ (c : List Record) (A i : ℕ) where
           let s : i + suc (suc len) ≡ j = omega arith in
           subst (λ (x : ℕ). acrossSplits c A i j p r ≡ byRuleOver at c A i x p r) (sym e)
           (subst (λ (j′ : ℕ). acrossSplits c A i j′ p r ≡ byRuleOver at c A i (suc (suc len)) p r) s refl)
-
-pub grammar-length : (rules : List ℕ) (many : ℕ) → length (grammarIn rules many) ≤ many
-grammar-length rules many = omega (arith, length-take many (rulesFrom rules))
 
 -- An item did not fit: nothing more is promised.
 pub over-filled : {g : List Rule} {n N room after : ℕ} {s : Option (List Record)}

@@ -18,10 +18,12 @@ use Rattle.grammar.specs.ItemList.{item, isBare, among}
 use Rattle.grammar.specs.Chart.{Record, itemOf}
 use Rattle.grammar.proofs.ItemTests.{among-true}
 use Rattle.layout.specs.Bytes.{counted}
+use Rattle.layout.specs.Card.{maxNonterminals}
+use Rattle.layout.specs.Line.{mostWords}
 use Rattle.chart_model.specs.Build.{places, barePlaces}
 use Rattle.chart_model.proofs.FillModel.{IsCell, Grown, grown-length, places-other, bares-other, bareAt, places-own, bares-own, foot-place, fresh-among, not-so}
 use Rattle.records.specs.declared.index.Range.{Range}
-use Rattle.records.specs.Bits.{bitOf, holdsBit}
+use Rattle.bits.specs.Bits.{bitOf, holdsBit}
 use Rattle.records.specs.Room.{chartIn, stateOf, footThere, FootFits, footNumber, numberedChart, numberThere, markOf, Marked, Working}
 use Rattle.records.specs.Index.{spans, spanAt, cellAt, rangeIn, bareIn, Indexed}
 use Rattle.chart.specs.Tables.{FirstAbsent, SecondAbsent, Rows, Sorted, bareFrom, Finished}
@@ -181,7 +183,7 @@ pub bit-zero : (b : ℕ) → bitOf b 0 ≡ 0
 bit-zero zero = refl
 bit-zero (suc b) = bit-zero b
 
-pub start-between : {g : List Rule} {n N room : ℕ} {chart marks index covers sets : List ℕ} → n ≤ 24 → N ≤ 16 → room ≤ 65535
+pub start-between : {g : List Rule} {n N room : ℕ} {chart marks index covers sets : List ℕ} → n ≤ mostWords → N ≤ maxNonterminals → room ≤ 65535
     → 16 * room ≤ length chart → spans n * N < length marks → 3 * (spans n * N) ≤ length index → Rows n sets
     → ((k : ℕ) → getD marks k 0 ≡ 0) → ((k : ℕ) → getD index k 0 ≡ 0) → spans n * N ≤ length covers
     → covers ≡ replicate (length covers) 0 → Between g n N room chart marks index covers sets 0
@@ -225,7 +227,7 @@ second-kept b c k j (Spine A a [] D (B ∷ after)) p q h = q B ∙ h
 second-kept b c k j (Spine A a (B ∷ before) D after) p q h = p D ∙ h
 
 -- The sets of a chart that one cell was added to.
-module _ (g : List Rule) (n A i j : ℕ) (A16 : A < 16) (ij : i < j) (jn : j ≤ n) {c b : List Record}
+module _ (g : List Rule) (n A i j : ℕ) (few : A < maxNonterminals) (ij : i < j) (jn : j ≤ n) {c b : List Record}
     (grown : Grown (IsCell A i j) c b) (by sets new : List ℕ) (last : ℕ) (classes : Classified g by) (old : Sorted g n c sets)
     (noted : Noted n by A i j last sets new) (lone : last ≡ 0 → barePlaces b A i j ≡ []) where
   places-apart : (B : ℕ) → (B ≡ A → ⊥) → places b B i j ≡ places c B i j
@@ -243,11 +245,11 @@ module _ (g : List Rule) (n A i j : ℕ) (A16 : A < 16) (ij : i < j) (jn : j ≤
   first-here : (p : ℕ) (r : Rule) → getElem? g p ≡ some r → bitOf p (getD new (2 * spanAt i j) 0) ≡ 0 → FirstAbsent b i j r
   first-here p (Lexical A′ w) e z = tt
   first-here p (Spine A′ a [] D after) e z = elim (ℕ-discrete D A) [
-    | yes q ↦ absurd (classes .firstDependents A A16 p _ e (noted .firsts p z .1) q)
+    | yes q ↦ absurd (classes .firstDependents A few p _ e (noted .firsts p z .1) q)
     | no d ↦ places-apart D d ∙ old .firsts p _ i j e ij jn (noted .firsts p z .0)
   ]
   first-here p (Spine A′ a (B ∷ before) D after) e z = elim (ℕ-discrete B A) [
-    | yes q ↦ bares-here B q (λ d. classes .firstSides A A16 p _ e (noted .firsts p z .2 d) q)
+    | yes q ↦ bares-here B q (λ d. classes .firstSides A few p _ e (noted .firsts p z .2 d) q)
     | no d ↦ bares-apart B d ∙ old .firsts p _ i j e ij jn (noted .firsts p z .0)
   ]
 
@@ -255,11 +257,11 @@ module _ (g : List Rule) (n A i j : ℕ) (A16 : A < 16) (ij : i < j) (jn : j ≤
   second-here p (Lexical A′ w) e z = tt
   second-here p (Spine A′ a [] D []) e z = tt
   second-here p (Spine A′ a [] D (B ∷ after)) e z = elim (ℕ-discrete B A) [
-    | yes q ↦ bares-here B q (λ d. classes .secondSides A A16 p _ e (noted .seconds p z .2 d) q)
+    | yes q ↦ bares-here B q (λ d. classes .secondSides A few p _ e (noted .seconds p z .2 d) q)
     | no d ↦ bares-apart B d ∙ old .seconds p _ i j e ij jn (noted .seconds p z .0)
   ]
   second-here p (Spine A′ a (B ∷ before) D after) e z = elim (ℕ-discrete D A) [
-    | yes q ↦ absurd (classes .secondDependents A A16 p _ e (noted .seconds p z .1) q)
+    | yes q ↦ absurd (classes .secondDependents A few p _ e (noted .seconds p z .1) q)
     | no d ↦ places-apart D d ∙ old .seconds p _ i j e ij jn (noted .seconds p z .0)
   ]
 

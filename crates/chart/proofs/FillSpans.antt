@@ -6,44 +6,43 @@ use native.Mathlib.Decide.{ℕ-discrete, decLe}
 use native.Mathlib.Omega.{arith}
 use mathlib.Core.Path.{_≡_, refl, sym, _∙_, ap, subst}
 use mathlib.Core.Logic.{_⊎_, inl, inr}
-use mathlib.Core.Bool.{Bool, _&&_, and-eq-true-iff}
+use mathlib.Core.Bool.{Bool, true, _&&_, and-eq-true-iff}
 use mathlib.Core.List.{List, [], _++_}
 use mathlib.Core.Option.{Option, none, some}
 use lib.Bits.{bitAnd}
 use lib.Dec.{eqb}
 use lib.ListN.{length, getD, take, drop, getElem?, take-append-drop}
 use lib.Seq.{drop-drop}
-use borrow.Author.Tests.{le-leb, ne-eqb}
+use borrow.Author.Tests.{le-leb, ne-eqb, eqb-true}
 use Rattle.grammar.specs.Rewriting.{Rule, Lexical, Spine}
-use Rattle.grammar.specs.Input.{wordIs}
 use Rattle.grammar.specs.Chart.{Record}
+use Rattle.places.specs.Places.{wordTest}
 use Rattle.grammar.proofs.StandsLaws.{some-same, none-some}
 use Rattle.chart_model.specs.Build.{foldUp, places, byRule, byWord, byRuleOver, candidates, addEach, fillCell, closeSpan, closeBack, closeEnd}
 use Rattle.chart_model.proofs.BuildLaws.{foldUp-more}
 use Rattle.chart_model.proofs.FillModel.{Grown, same, grown-length, cell-grown, span-grown, end-grown, all-grown, places-other, bares-other, fold-none, not-so}
 use Rattle.chart_model.proofs.Absent.{splits-none, candidates-none}
-use Rattle.records.specs.Bits.{bitOf}
+use Rattle.bits.specs.Bits.{bitOf}
 use Rattle.records.specs.Room.{chartIn, numberedChart}
 use Rattle.records.specs.Index.{spanAt}
 use Rattle.chart.specs.Tables.{FirstAbsent, SecondAbsent, Sorted, Splits, leftIs, OwnSet, CellSet}
 use Rattle.chart.specs.declared.sets.Meeting.{Meeting}
 use Rattle.chart.specs.Fill.{WordRule, SetOf, Classified, bothAt, Met, Meets, SpanSet, NextLeft, Between, Filled, Closed}
-use Rattle.records.proofs.BitLaws.{bitOf-and}
+use Rattle.bits.proofs.BitLaws.{bitOf-and}
 use Rattle.records.proofs.RoomLaws.{chart-length}
-use Rattle.chart.proofs.BitSets.{and-zero, bit-one}
+use Rattle.bits.proofs.BitSets.{and-zero, bit-one}
 use Rattle.chart.proofs.CellLaws.{absent-first, absent-second, not-own}
 use Rattle.chart.proofs.FillLaws.{state-some, state-over, bit-zero, first-kept, second-kept}
-use Rattle.chart.proofs.FillCells.{word-true, over-filled}
+use Rattle.chart.proofs.FillCells.{over-filled}
 
--- A word rule of another nonterminal, and one for another word, make no records.
-module _ (words : List ℕ) (n A i p : ℕ) where
-  other-word : (r : Rule) → (leftIs A r → ⊥) → byWord (wordIs (take n words)) A i p r ≡ []
+-- A word rule of another nonterminal, and one for a word that does not stand there, make no records.
+module _ (at : ℕ → ℕ → Bool) (A i p : ℕ) where
+  other-word : (r : Rule) → (leftIs A r → ⊥) → byWord at A i p r ≡ []
   other-word (Lexical A′ w) h = rw (ne-eqb A′ A h)
   other-word (Spine A′ a before D after) h = refl
 
-  word-none : (r : Rule) → (WordRule (getD words i 0) r → ⊥) → byWord (wordIs (take n words)) A i p r ≡ []
-  word-none (Lexical A′ w) h =
-      rw (not-so (eqb A′ A && wordIs (take n words) i w) (λ t. h (word-true words n i w (and-eq-true-iff (eqb A′ A) _ .0 t .1))))
+  word-none : (r : Rule) → ((w : ℕ) → at i w ≡ true → WordRule w r → ⊥) → byWord at A i p r ≡ []
+  word-none (Lexical A′ w) h = rw (not-so (eqb A′ A && at i w) (λ t. h w (and-eq-true-iff (eqb A′ A) (at i w) .0 t .1) refl))
   word-none (Spine A′ a before D after) h = refl
 
 -- The records of the span so far are no antecedents in it, so what the sets said of the chart before it still holds.
@@ -77,8 +76,8 @@ module _ {g : List Rule} {n : ℕ} (i j : ℕ) {sets : List ℕ} {P : ℕ → �
         ]);
       }
 
-module _ (g : List Rule) (n A i j set own : ℕ) (sets words : List ℕ) {P : ℕ → ℕ → ℕ → Type 0} {c b : List Record}
-    (worded : j ≡ i + 1 → SetOf g (WordRule (getD words i 0)) set) (meets : Meets sets i j set) (owns : OwnSet g A own) (ij : i < j) (jn : j ≤ n)
+module _ (g : List Rule) (at : ℕ → ℕ → Bool) (n A i j set own : ℕ) (sets : List ℕ) {P : ℕ → ℕ → ℕ → Type 0} {c b : List Record}
+    (worded : j ≡ i + 1 → (w : ℕ) → at i w ≡ true → SetOf g (WordRule w) set) (meets : Meets sets i j set) (owns : OwnSet g A own) (ij : i < j) (jn : j ≤ n)
     (sorted : Sorted g n c sets) (grown : Grown P c b) (inside : (B x y : ℕ) → P B x y → (x ≡ i) × (y ≡ j)) where
   split-none : (k p : ℕ) (r : Rule) → i < k → k < j → getElem? g p ≡ some r → bitOf p (bitAnd own set) ≡ 0
       → byRule b A i k j p r ≡ []
@@ -91,17 +90,17 @@ module _ (g : List Rule) (n A i j set own : ℕ) (sets words : List ℕ) {P : �
   ]
 
   word-rule-none : (p : ℕ) (r : Rule) → j ≡ i + 1 → getElem? g p ≡ some r → bitOf p (bitAnd own set) ≡ 0
-      → byWord (wordIs (take n words)) A i p r ≡ []
+      → byWord at A i p r ≡ []
   word-rule-none p r one e apart = elim (and-zero p own set apart) [
-    | inl z ↦ other-word words n A i p r (owns .has p r e z)
-    | inr z ↦ word-none words n A i p r (worded one p r e z)
+    | inl z ↦ other-word at A i p r (owns .has p r e z)
+    | inr z ↦ word-none at A i p r (λ w t. worded one w t p r e z)
   ]
 
   rule-none : (p : ℕ) (r : Rule) → getElem? g p ≡ some r → bitOf p (bitAnd own set) ≡ 0
-      → byRuleOver (wordIs (take n words)) b A i (j - i) p r ≡ []
+      → byRuleOver at b A i (j - i) p r ≡ []
   rule-none p r e apart = go (j - i) refl
     where
-      go : (len : ℕ) → j - i ≡ len → byRuleOver (wordIs (take n words)) b A i (j - i) p r ≡ []
+      go : (len : ℕ) → j - i ≡ len → byRuleOver at b A i (j - i) p r ≡ []
       go zero q = absurd (omega arith)
       go (suc zero) q = rw q (word-rule-none p r (omega arith) e apart)
       go (suc (suc len)) q =
@@ -110,15 +109,15 @@ module _ (g : List Rule) (n A i j set own : ℕ) (sets words : List ℕ) {P : �
           (λ k x y. subst (λ (j′ : ℕ). byRule b A i k j′ p r ≡ []) s (split-none k p r x (omega arith) e apart)))
 
   -- So the productions that both sets have are all that can add to the cell.
-  pub cell-set : CellSet g (wordIs (take n words)) b A i (j - i) (bitAnd own set)
+  pub cell-set : CellSet g at b A i (j - i) (bitAnd own set)
   cell-set = record { idle = rule-none; noMore = λ p l. omega (arith, owns .noMore p l, bitOf-and p own set) }
 
-  no-candidates : ((p : ℕ) → bitOf p (bitAnd own set) ≡ 0) → candidates g (wordIs (take n words)) b A i (j - i) ≡ []
-  no-candidates apart = candidates-none g (wordIs (take n words)) b A i (j - i) (λ p r e. rule-none p r e (apart p))
+  no-candidates : ((p : ℕ) → bitOf p (bitAnd own set) ≡ 0) → candidates g at b A i (j - i) ≡ []
+  no-candidates apart = candidates-none g at b A i (j - i) (λ p r e. rule-none p r e (apart p))
 
   -- Where there is none the cell's turn changes nothing.
   pub idle-cell : (room : ℕ) → ((p : ℕ) → bitOf p (bitAnd own set) ≡ 0)
-      → fillCell room g (wordIs (take n words)) (j - i) i A (some b) ≡ some b
+      → fillCell room g at (j - i) i A (some b) ≡ some b
   idle-cell room apart = ap (λ (rs : List Record). addEach room rs (some b)) (no-candidates apart)
 
 -- Turns that change nothing.
@@ -129,35 +128,35 @@ fold-idle f (suc m) c h = rw (fold-idle f m c (λ l k. h l (omega arith))) (h m 
 
 -- In a span: with an empty set no nonterminal adds anything; one whose set shares no production with the span's adds nothing; and the
 -- cell of the next nonterminal is still without records.
-module _ {g : List Rule} {n N count : ℕ} {chart marks index covers sets by words both : List ℕ} {i j : ℕ} {r : Meeting} (room : ℕ)
+module _ {g : List Rule} {n N count : ℕ} {chart marks index covers sets by places both : List ℕ} {i j : ℕ} {r : Meeting} (room : ℕ)
     (b : Between g n N room chart marks index covers sets count) (classes : Classified g by)
-    (spans : SpanSet by sets words i j both r) (ij : i < j) (jn : j ≤ n) where
-  worded : j ≡ i + 1 → SetOf g (WordRule (getD words i 0)) (r .productions)
-  worded one = rw (spans .ofWord one) (classes .words (getD words i 0))
+    (spans : SpanSet by sets places i j both r) (ij : i < j) (jn : j ≤ n) where
+  worded : j ≡ i + 1 → (w : ℕ) → wordTest places i w ≡ true → SetOf g (WordRule w) (r .productions)
+  worded one w t p rule e z = classes .words w p rule e (spans .ofWords one w p (eqb-true (bitOf w (getD places i 0)) 1 t) z)
 
   pub idle-span : r .productions ≡ 0
-      → foldUp (fillCell room g (wordIs (take n words)) (j - i) i) N (some (chartIn chart count)) ≡ some (chartIn chart count)
+      → foldUp (fillCell room g (wordTest places) (j - i) i) N (some (chartIn chart count)) ≡ some (chartIn chart count)
   idle-span z =
-      fold-idle (fillCell room g (wordIs (take n words)) (j - i) i) N (chartIn chart count)
-      (λ A l. idle-cell g n A i j (r .productions) (getD by A 0) sets words {P = λ _ _ _. ⊥} worded (spans .ofSplits)
+      fold-idle (fillCell room g (wordTest places) (j - i) i) N (chartIn chart count)
+      (λ A l. idle-cell g (wordTest places) n A i j (r .productions) (getD by A 0) sets {P = λ _ _ _. ⊥} worded (spans .ofSplits)
       (classes .own A (omega (arith, b .symbolsFit))) ij jn (b .sorted) same (λ B x y h. absurd h) room
       (λ p. omega (arith, bitOf-and p (getD by A 0) (r .productions), ap (bitOf p) z ∙ bit-zero p)))
 
   -- Once the nonterminals below m are through.
   module _ {c : List Record} (m : ℕ)
-      (q : foldUp (fillCell room g (wordIs (take n words)) (j - i) i) m (some (chartIn chart count)) ≡ some c) (A : ℕ) (l : A < N) where
-    pub idle-turn : bitAnd (getD by A 0) (r .productions) ≡ 0 → fillCell room g (wordIs (take n words)) (j - i) i A (some c) ≡ some c
+      (q : foldUp (fillCell room g (wordTest places) (j - i) i) m (some (chartIn chart count)) ≡ some c) (A : ℕ) (l : A < N) where
+    pub idle-turn : bitAnd (getD by A 0) (r .productions) ≡ 0 → fillCell room g (wordTest places) (j - i) i A (some c) ≡ some c
     idle-turn z =
-        idle-cell g n A i j (r .productions) (getD by A 0) sets words worded (spans .ofSplits)
+        idle-cell g (wordTest places) n A i j (r .productions) (getD by A 0) sets worded (spans .ofSplits)
         (classes .own A (omega (arith, b .symbolsFit))) ij jn (b .sorted)
-        (span-grown room g (wordIs (take n words)) (j - i) i m q) (λ B x y (u, v, w). (v, omega arith)) room
+        (span-grown room g (wordTest places) (j - i) i m q) (λ B x y (u, v, w). (v, omega arith)) room
         (λ p. ap (bitOf p) z ∙ bit-zero p)
 
-    pub turn-set : CellSet g (wordIs (take n words)) c A i (j - i) (bitAnd (getD by A 0) (r .productions))
+    pub turn-set : CellSet g (wordTest places) c A i (j - i) (bitAnd (getD by A 0) (r .productions))
     turn-set =
-        cell-set g n A i j (r .productions) (getD by A 0) sets words worded (spans .ofSplits)
+        cell-set g (wordTest places) n A i j (r .productions) (getD by A 0) sets worded (spans .ofSplits)
         (classes .own A (omega (arith, b .symbolsFit))) ij jn (b .sorted)
-        (span-grown room g (wordIs (take n words)) (j - i) i m q) (λ B x y (u, v, w). (v, omega arith))
+        (span-grown room g (wordTest places) (j - i) i m q) (λ B x y (u, v, w). (v, omega arith))
 
 -- What meets at the splits, in terms of the chart once the nonterminals below m are through.
 pub turn-splits : {g : List Rule} {n N count splits : ℕ} {chart marks index covers sets both : List ℕ} {i j : ℕ} {c : List Record}
@@ -263,14 +262,14 @@ fold-pass {g} {n} {N} {room} {total} {old} {mid} {marks} {index} {covers} {sets}
 
 -- In a span: the nonterminals up to the next that has a production in its set.
 pub span-pass : {g : List Rule} {n N count total : ℕ}
-    {chart marks index covers sets by words both mid marks′ index′ covers′ sets′ : List ℕ} {i j : ℕ} {r : Meeting} (room : ℕ)
-    → Between g n N room chart marks index covers sets count → Classified g by → SpanSet by sets words i j both r → i < j → j ≤ n
+    {chart marks index covers sets by places both mid marks′ index′ covers′ sets′ : List ℕ} {i j : ℕ} {r : Meeting} (room : ℕ)
+    → Between g n N room chart marks index covers sets count → Classified g by → SpanSet by sets places i j both r → i < j → j ≤ n
     → (m A : ℕ) → NextLeft by (r .productions) m N A → total ≤ room
-    → let f = fillCell room g (wordIs (take n words)) (j - i) i in
+    → let f = fillCell room g (wordTest places) (j - i) i in
     Filled g n N room (foldUp f m (some (chartIn chart count))) chart mid marks′ index′ covers′ sets′ total
     → Filled g n N room (foldUp f A (some (chartIn chart count))) chart mid marks′ index′ covers′ sets′ total
-span-pass {g} {n} {words = words} {mid = mid} {i = i} {j} room b classes spans ij jn m A next fits sofar =
-    fold-pass (fillCell room g (wordIs (take n words)) (j - i) i) m A _ (next .later) sofar fits
+span-pass {g} {n} {places = places} {mid = mid} {i = i} {j} room b classes spans ij jn m A next fits sofar =
+    fold-pass (fillCell room g (wordTest places) (j - i) i) m A _ (next .later) sofar fits
     (λ l u v. idle-turn room b classes spans ij jn m (state-some room _ mid (sofar .model) fits) l (omega (arith, next .within))
     (next .passed l u v))
 

@@ -1,4 +1,4 @@
-pub mod BitSets
+pub mod CardFits
 pub mod CellLaws
 pub mod FinishLaws
 pub mod SetLaws
@@ -6,6 +6,4 @@ pub mod RowLaws
 pub mod FillLaws
 pub mod FillCells
 pub mod FillSpans
-pub mod BuiltLaws
-pub mod CardFits
 pub mod BuiltExact

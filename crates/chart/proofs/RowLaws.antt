@@ -10,13 +10,14 @@ use mathlib.Core.List.{List}
 use lib.Bits.{bitAnd, bitOr, and-zero-l, and-zero-r}
 use lib.ListN.{length, getD, set, length-set}
 use lib.Seq.{getD-set-same, getD-set-other}
-use Rattle.records.specs.Bits.{bitOf}
+use Rattle.bits.specs.Bits.{bitOf, Without}
 use Rattle.records.specs.Index.{spans, spanAt}
-use Rattle.records.proofs.BitLaws.{bitOf-zero, one-shifted}
+use Rattle.bits.proofs.BitLaws.{bitOf-zero, one-shifted}
 use Rattle.records.proofs.TableLaws.{spans-twice, span-below, span-same}
-use Rattle.chart.specs.Tables.{rowAt, columnAt, Rows, Without}
+use Rattle.chart.specs.Tables.{bounds, rowAt, columnAt, Rows}
+use Rattle.chart.specs.Fill.{firstSideAt, firstDependentAt, secondSideAt, secondDependentAt}
 use Rattle.chart.specs.Fill.{bothAt, Met, Meets, Noted}
-use Rattle.chart.proofs.BitSets.{or-bits, without-has, without-lacks, and-zero, and-one, bit-one}
+use Rattle.bits.proofs.BitSets.{or-bits, without-has, without-lacks, and-zero, and-one, bit-one}
 use Rattle.chart.proofs.SetLaws.{orInto, into-there, into-kept, with-there, with-others}
 
 -- Rows and columns alike: for each x a line of the y with a set that is not empty at `cell x y`.
@@ -200,16 +201,16 @@ Covers by always bared bare set = (p : ℕ) → bitOf p set ≡ 0
     → (bitOf p (getD by always 0) ≡ 0) × ((bare ≡ 0 → ⊥) → bitOf p (getD by bared 0) ≡ 0)
 
 abbrev pub CellSets : List ℕ → ℕ → ℕ → ℕ → ℕ → Type 0
-CellSets by A bare first second = Covers by (32 + A) (16 + A) bare first × Covers by (64 + A) (48 + A) bare second
+CellSets by A bare first second = Covers by (firstDependentAt A) (firstSideAt A) bare first × Covers by (secondDependentAt A) (secondSideAt A) bare second
 
-pub sets-plain : (by : List ℕ) (A bare : ℕ) {first second : ℕ} → bare ≡ 0 → first ≡ getD by (32 + A) 0 → second ≡ getD by (64 + A) 0
+pub sets-plain : (by : List ℕ) (A bare : ℕ) {first second : ℕ} → bare ≡ 0 → first ≡ getD by (firstDependentAt A) 0 → second ≡ getD by (secondDependentAt A) 0
     → CellSets by A bare first second
 sets-plain by A bare z e d =
     (λ p h. (sym (ap (bitOf p) e) ∙ h, λ b. absurd (b z)), λ p h. (sym (ap (bitOf p) d) ∙ h, λ b. absurd (b z)))
 
-pub sets-bare : (by : List ℕ) (A bare : ℕ) {first second : ℕ} → first ≡ bitOr (getD by (32 + A) 0) (getD by (16 + A) 0)
-    → second ≡ bitOr (getD by (64 + A) 0) (getD by (48 + A) 0) → CellSets by A bare first second
-sets-bare by A bare e d = (both (32 + A) (16 + A) e, both (64 + A) (48 + A) d)
+pub sets-bare : (by : List ℕ) (A bare : ℕ) {first second : ℕ} → first ≡ bitOr (getD by (firstDependentAt A) 0) (getD by (firstSideAt A) 0)
+    → second ≡ bitOr (getD by (secondDependentAt A) 0) (getD by (secondSideAt A) 0) → CellSets by A bare first second
+sets-bare by A bare e d = (both (firstDependentAt A) (firstSideAt A) e, both (secondDependentAt A) (secondSideAt A) d)
   where
     both : (x y : ℕ) {set : ℕ} → set ≡ bitOr (getD by x 0) (getD by y 0) → Covers by x y bare set
     both x y e p h = let (u, v) = or-bits p (getD by x 0) (getD by y 0) (sym (ap (bitOf p) e) ∙ h) in (u, λ b. v)
@@ -259,7 +260,7 @@ module _ {n i j splits : ℕ} {sets : List ℕ} (r : Rows n sets) (e : splits �
   ]
 
 -- A span of one word has no splits.
-pub met-word : {i j : ℕ} {sets both : List ℕ} → j ≡ i + 1 → length both ≡ 25 → Met sets i j both 0
+pub met-word : {i j : ℕ} {sets both : List ℕ} → j ≡ i + 1 → length both ≡ bounds → Met sets i j both 0
 met-word one e =
     record {
       long = e;
@@ -270,12 +271,12 @@ met-word one e =
 
 -- The splits that were looked at, those of the set that are not in the rest: what meets there is known, and is in the set of productions.
 pub record MetSoFar (sets : List ℕ) (i j splits rest : ℕ) (both : List ℕ) (productions : ℕ) : Type 0 where
-  pub long : length both ≡ 25
+  pub long : length both ≡ bounds
   pub left : (k : ℕ) → bitOf k rest ≡ 1 → bitOf k splits ≡ 1
   pub there : (k : ℕ) → bitOf k splits ≡ 1 → bitOf k rest ≡ 0 → getD both k 0 ≡ bothAt sets i k j
   pub all : (p k : ℕ) → bitOf k splits ≡ 1 → bitOf k rest ≡ 0 → bitOf p productions ≡ 0 → bitOf p (bothAt sets i k j) ≡ 0
 
-pub met-none : {sets both : List ℕ} {i j splits : ℕ} (productions : ℕ) → length both ≡ 25
+pub met-none : {sets both : List ℕ} {i j splits : ℕ} (productions : ℕ) → length both ≡ bounds
     → MetSoFar sets i j splits splits both productions
 met-none productions e =
     record {
@@ -286,7 +287,7 @@ met-none productions e =
     }
 
 pub met-more : {sets both : List ℕ} {i j splits rest productions k rest′ here : ℕ}
-    → MetSoFar sets i j splits rest both productions → Without rest k rest′ → k < 25 → here ≡ bothAt sets i k j
+    → MetSoFar sets i j splits rest both productions → Without rest k rest′ → k < bounds → here ≡ bothAt sets i k j
     → MetSoFar sets i j splits rest′ (set both k here) (bitOr productions here)
 met-more {sets} {both} {i} {j} {splits} {rest} {productions} {k} {rest′} {here} m w h e =
     record {

@@ -1,29 +1,31 @@
 -- Sets of productions as bits. `|` only adds bits, so no set loses a production; hence what the sets say of the rules so far holds
 -- of one rule more as soon as that production's own bit is in the sets that its rule asks for.
-use Prim.Native.Nat.{ℕ, zero, suc, _+_, _%_, _^_, _≤_, _<_}
-use native.Mathlib.Numerals.{add-one}
+use Prim.Native.Nat.{ℕ, zero, suc, _+_, _^_, _≤_, _<_}
 use native.Mathlib.Omega.{arith}
-use native.Mathlib.Decide.{ℕ-discrete}
+use native.Mathlib.Decide.{ℕ-discrete, decLt}
 use mathlib.Core.Path.{_≡_, refl, sym, ap, subst, _∙_}
 use mathlib.Core.Logic.{_⊎_, inl, inr}
 use mathlib.Core.List.{List, [], _∷_}
 use mathlib.Core.Option.{some}
 use lib.Bits.{bitOr}
-use lib.ListN.{length, getD, getElem?, set, replicate, length-set, length-take}
+use lib.ListN.{length, getD, getElem?, set, replicate, length-set}
 use lib.Seq.{getD-set-same, getD-set-other}
 use Rattle.grammar.specs.Rewriting.{Rule, Lexical, Spine, Action}
-use Rattle.grammar.proofs.StandsLaws.{none-some, some-same}
+use Rattle.grammar.proofs.StandsLaws.{none-some}
 use Rattle.card.specs.Productions.{actionFrom, ruleFrom}
 use Rattle.card.specs.declared.Action as declared
 use Rattle.card.specs.declared.Production.{Production}
 use Rattle.card.specs.declared.Production.the-variants.{Word, SideFirst, SideLast}
-use Rattle.records.specs.Bits.{bitOf}
+use Rattle.bits.specs.Bits.{bitOf, Least, Without}
+use Rattle.layout.specs.Card.{maxNonterminals, maxWords, production}
 use Rattle.steps.specs.Fits.{RuleFits}
-use Rattle.chart.specs.Tables.{leftIs, packedRule, rulesFrom, grammarIn, RulesFit}
-use Rattle.chart.specs.Fill.{FirstSide, FirstDependent, SecondSide, SecondDependent, SetOf, Classified, withBit, Joined, WordRule}
-use Rattle.records.proofs.BitLaws.{bitOf-or, bitOf-zero, bitOf-power, bitOf-other}
-use Rattle.chart.proofs.BitSets.{or-bits}
-use Rattle.chart.proofs.CellLaws.{rule-there}
+use Rattle.chart.specs.Tables.{leftIs}
+use Rattle.chart.specs.Fill.{firstSideAt, firstDependentAt, secondSideAt, secondDependentAt, wordAt, setCount}
+use Rattle.chart.specs.Fill.{FirstSide, FirstDependent, SecondSide, SecondDependent, WordRule, SetOf, Classified, withBit, Joined}
+use Rattle.chart.specs.Fill.{OfWords}
+use Rattle.bits.proofs.BitLaws.{bitOf-or, bitOf-zero, bitOf-power, bitOf-other, bit-beyond}
+use Rattle.bits.proofs.BitSets.{or-bits, without-has, without-lacks}
+use Rattle.chart.proofs.CardFits.{firstRules, rules-length, rule-there, rule-in}
 
 -- Bits go into the set at a place: no set loses a bit, and that set has those.
 abbrev pub orInto : List ℕ → ℕ → ℕ → List ℕ
@@ -72,7 +74,7 @@ record Three (old : List ℕ) (p s t u : ℕ) (new : List ℕ) : Type 0 where
   second : Has p new t
   third : Has p new u
 
-three : (old : List ℕ) (p s t u : ℕ) → length old ≡ 112 → s < 112 → t < 112 → u < 112
+three : (old : List ℕ) (p s t u : ℕ) → length old ≡ setCount → s < setCount → t < setCount → u < setCount
     → Three old p s t u (withBit (withBit (withBit old s p) t p) u p)
 three old p s t u long a b c =
     let one = withBit old s p in
@@ -90,104 +92,96 @@ three old p s t u long a b c =
     }
 
 -- The three kinds of rules.
-module _ (old : List ℕ) (p A : ℕ) (long : length old ≡ 112) (fits : A < 16) where
-  joined-word : (w : ℕ) → Joined (Lexical A w) p old (withBit (withBit old A p) (80 + w % 32) p)
-  joined-word w =
+module _ (old : List ℕ) (p A : ℕ) (long : length old ≡ setCount) (fits : A < maxNonterminals) where
+  joined-word : (w : ℕ) → w < maxWords → Joined (Lexical A w) p old (withBit (withBit old A p) (wordAt w) p)
+  joined-word w few =
       let one = withBit old A p in
-      let new = withBit one (80 + w % 32) p in
+      let new = withBit one (wordAt w) p in
       let h : A < length old = omega arith in
-      let k : 80 + w % 32 < length one = simp length-set (omega arith) in
+      let k : wordAt w < length one = simp length-set (omega arith) in
       record {
         sameLength = simp length-set;
-        kept = λ x q z. into-kept old A (2 ^ p) h x q (into-kept one (80 + w % 32) (2 ^ p) k x q z);
-        others = λ x q d z. with-others one (80 + w % 32) p k x q d (with-others old A p h x q d z);
-        own = λ x e. subst (Has p new) e (λ z. with-there old A p h (into-kept one (80 + w % 32) (2 ^ p) k A p z));
+        kept = λ x q z. into-kept old A (2 ^ p) h x q (into-kept one (wordAt w) (2 ^ p) k x q z);
+        others = λ x q d z. with-others one (wordAt w) p k x q d (with-others old A p h x q d z);
+        own = λ x e. subst (Has p new) e (λ z. with-there old A p h (into-kept one (wordAt w) (2 ^ p) k A p z));
         firstSide = λ x e z. e;
         firstDependent = λ x e z. e;
         secondSide = λ x e z. e;
         secondDependent = λ x e z. e;
-        word = λ x e. subst (λ (y : ℕ). Has p new (80 + y % 32)) (sym e) (with-there one (80 + w % 32) p k);
+        word = λ x e. subst (λ (y : ℕ). Has p new (wordAt y)) (sym e) (with-there one (wordAt w) p k);
       }
 
-  module _ (a : Action) (D B : ℕ) (d : D < 16) (b : B < 16) where
-    joined-first : Joined (Spine A a (B ∷ []) D []) p old (withBit (withBit (withBit old A p) (16 + B) p) (64 + D) p)
+  module _ (a : Action) (D B : ℕ) (d : D < maxNonterminals) (b : B < maxNonterminals) where
+    joined-first : Joined (Spine A a (B ∷ []) D []) p old (withBit (withBit (withBit old A p) (firstSideAt B) p) (secondDependentAt D) p)
     joined-first =
-        let new = withBit (withBit (withBit old A p) (16 + B) p) (64 + D) p in
-        let t = three old p A (16 + B) (64 + D) long (omega arith) (omega arith) (omega arith) in
+        let new = withBit (withBit (withBit old A p) (firstSideAt B) p) (secondDependentAt D) p in
+        let t = three old p A (firstSideAt B) (secondDependentAt D) long (omega arith) (omega arith) (omega arith) in
         record {
           sameLength = t .sameLength;
           kept = t .kept;
           others = t .others;
           own = λ k e. subst (Has p new) e (t .first);
-          firstSide = λ k e. subst (λ (x : ℕ). Has p new (16 + x)) e (t .second);
+          firstSide = λ k e. subst (λ (x : ℕ). Has p new (firstSideAt x)) e (t .second);
           firstDependent = λ k e z. e;
           secondSide = λ k e z. e;
-          secondDependent = λ k e. subst (λ (x : ℕ). Has p new (64 + x)) e (t .third);
+          secondDependent = λ k e. subst (λ (x : ℕ). Has p new (secondDependentAt x)) e (t .third);
           word = λ w e z. e;
         }
 
-    joined-last : Joined (Spine A a [] D (B ∷ [])) p old (withBit (withBit (withBit old A p) (32 + D) p) (48 + B) p)
+    joined-last : Joined (Spine A a [] D (B ∷ [])) p old (withBit (withBit (withBit old A p) (firstDependentAt D) p) (secondSideAt B) p)
     joined-last =
-        let new = withBit (withBit (withBit old A p) (32 + D) p) (48 + B) p in
-        let t = three old p A (32 + D) (48 + B) long (omega arith) (omega arith) (omega arith) in
+        let new = withBit (withBit (withBit old A p) (firstDependentAt D) p) (secondSideAt B) p in
+        let t = three old p A (firstDependentAt D) (secondSideAt B) long (omega arith) (omega arith) (omega arith) in
         record {
           sameLength = t .sameLength;
           kept = t .kept;
           others = t .others;
           own = λ k e. subst (Has p new) e (t .first);
           firstSide = λ k e z. e;
-          firstDependent = λ k e. subst (λ (x : ℕ). Has p new (32 + x)) e (t .second);
-          secondSide = λ k e. subst (λ (x : ℕ). Has p new (48 + x)) e (t .third);
+          firstDependent = λ k e. subst (λ (x : ℕ). Has p new (firstDependentAt x)) e (t .second);
+          secondSide = λ k e. subst (λ (x : ℕ). Has p new (secondSideAt x)) e (t .third);
           secondDependent = λ k e z. e;
           word = λ w e z. e;
         }
 
 -- The same of the productions as the code has them.
-pub word-fits : {r : Production} {A w : ℕ} → r ≡ Word A w → RuleFits 16 (ruleFrom r) → A < 16
-word-fits e f = subst (λ (x : Production). RuleFits 16 (ruleFrom x)) e f
+pub word-fits : {r : Production} {A w : ℕ} → r ≡ Word A w → RuleFits maxNonterminals (ruleFrom r) → (A < maxNonterminals) × (w < maxWords)
+word-fits e f = subst (λ (x : Production). RuleFits maxNonterminals (ruleFrom x)) e f
 
-pub first-fits : {r : Production} {A B D : ℕ} {a : declared.Action} → r ≡ SideFirst A a B D → RuleFits 16 (ruleFrom r)
-    → (A < 16) × (B < 16) × (D < 16)
-first-fits e f = let (a, b, c, d, g) = subst (λ (x : Production). RuleFits 16 (ruleFrom x)) e f in (a, c .0, d)
+pub first-fits : {r : Production} {A B D : ℕ} {a : declared.Action} → r ≡ SideFirst A a B D → RuleFits maxNonterminals (ruleFrom r)
+    → (A < maxNonterminals) × (B < maxNonterminals) × (D < maxNonterminals)
+first-fits e f = let (a, b, c, d, g) = subst (λ (x : Production). RuleFits maxNonterminals (ruleFrom x)) e f in (a, c .0, d)
 
-pub last-fits : {r : Production} {A B D : ℕ} {a : declared.Action} → r ≡ SideLast A a D B → RuleFits 16 (ruleFrom r)
-    → (A < 16) × (D < 16) × (B < 16)
-last-fits e f = let (a, b, c, d, g) = subst (λ (x : Production). RuleFits 16 (ruleFrom x)) e f in (a, d, g .0)
+pub last-fits : {r : Production} {A B D : ℕ} {a : declared.Action} → r ≡ SideLast A a D B → RuleFits maxNonterminals (ruleFrom r)
+    → (A < maxNonterminals) × (D < maxNonterminals) × (B < maxNonterminals)
+last-fits e f = let (a, b, c, d, g) = subst (λ (x : Production). RuleFits maxNonterminals (ruleFrom x)) e f in (a, d, g .0)
 
-module _ {r : Production} (p : ℕ) {old : List ℕ} (f : RuleFits 16 (ruleFrom r)) (long : length old ≡ 112) {new : List ℕ} {x A : ℕ}
+module _ {r : Production} (p : ℕ) {old : List ℕ} (f : RuleFits maxNonterminals (ruleFrom r)) (long : length old ≡ setCount) {new : List ℕ} {x A : ℕ}
   where
     pub word-joined : {one : List ℕ} {y w : ℕ} → r ≡ Word A w → x ≡ A → y ≡ w → one ≡ withBit old x p
-        → new ≡ withBit one (80 + y % 32) p → Joined (ruleFrom r) p old new
-    word-joined {w = w} e h i l n = rw (e, n, l, h, i) (joined-word old p A long (word-fits e f) w)
+        → new ≡ withBit one (wordAt y) p → Joined (ruleFrom r) p old new
+    word-joined {w = w} e h i l n =
+        let (u, v) = word-fits e f in rw (e, n, l, h, i) (joined-word old p A long u w v)
 
     pub first-joined : {one two : List ℕ} {y z B D : ℕ} {a : declared.Action} → r ≡ SideFirst A a B D → x ≡ A → y ≡ B
-        → z ≡ D → one ≡ withBit old x p → two ≡ withBit one (16 + y) p → new ≡ withBit two (64 + z) p → Joined (ruleFrom r) p old new
+        → z ≡ D → one ≡ withBit old x p → two ≡ withBit one (firstSideAt y) p → new ≡ withBit two (secondDependentAt z) p → Joined (ruleFrom r) p old new
     first-joined {B = B} {D} {a} e h i j l m n =
         let (u, v, w) = first-fits e f in rw (e, n, m, l, h, i, j) (joined-first old p A long u (actionFrom a) D B w v)
 
     pub last-joined : {one two : List ℕ} {y z B D : ℕ} {a : declared.Action} → r ≡ SideLast A a D B → x ≡ A → y ≡ D
-        → z ≡ B → one ≡ withBit old x p → two ≡ withBit one (32 + y) p → new ≡ withBit two (48 + z) p → Joined (ruleFrom r) p old new
+        → z ≡ B → one ≡ withBit old x p → two ≡ withBit one (firstDependentAt y) p → new ≡ withBit two (secondSideAt z) p → Joined (ruleFrom r) p old new
     last-joined {B = B} {D} {a} e h i j l m n =
         let (u, v, w) = last-fits e f in rw (e, n, m, l, h, i, j) (joined-last old p A long u (actionFrom a) D B v w)
 
--- A rule of a grammar that has one rule more: one of those before, or the last.
-rule-more : (rules : List ℕ) (p q : ℕ) {r : Rule} → getElem? (grammarIn rules (suc p)) q ≡ some r
-    → (getElem? (grammarIn rules p) q ≡ some r) ⊎ ((q ≡ p) × (r ≡ packedRule (getD rules p 0)))
-rule-more [] p q e = absurd (none-some e)
-rule-more (x ∷ rules) zero zero e = inr (refl, sym (some-same e))
-rule-more (x ∷ rules) zero (suc q) e = absurd (none-some e)
-rule-more (x ∷ rules) (suc p) zero e = inl e
-rule-more (x ∷ rules) (suc p) (suc q) e = elim (rule-more rules p q e) [
-  | inl f ↦ inl f
-  | inr (a, b) ↦ inr (ap suc a, b)
-]
-
-pub rules-length : (rules : List ℕ) → length (rulesFrom rules) ≡ length rules
-rules-length [] = refl
-rules-length (w ∷ rules) = ap suc (rules-length rules)
-
-pub rule-fits : {N : ℕ} {rules : List ℕ} (p : ℕ) → p < 64 → RulesFit N rules → RuleFits N (packedRule (getD rules p 0))
-rule-fits {rules = rules} p h f = f .fits p _ (rule-there rules p (omega (arith, f .long)))
+-- A rule of the first p + 1: one of those before, or the last.
+last-rule : (card : List ℕ) (p q : ℕ) {r : Rule} → getElem? (firstRules card (p + 1)) q ≡ some r
+    → (getElem? (firstRules card p) q ≡ some r) ⊎ ((q ≡ p) × (r ≡ production card p))
+last-rule card p q e =
+    let (h, is) = rule-in card (p + 1) q e in
+    elim (ℕ-discrete q p) [
+      | yes s ↦ inr (s, is ∙ ap (production card) s)
+      | no d ↦ inl (rule-there card p q (omega arith) ∙ ap some (sym is))
+    ]
 
 -- What is all 0 is 0 everywhere.
 pub zero-at : (n s : ℕ) → _≡_ {A = ℕ} (getD (replicate n 0) s 0) 0
@@ -199,10 +193,10 @@ zero-at (suc n) (suc s) = zero-at n s
 setOf-none : (test : Rule → Type 0) (set : ℕ) → SetOf [] test set
 setOf-none test set p r e = absurd (none-some e)
 
-setOf-more : (rules : List ℕ) (p : ℕ) (test : Rule → Type 0) (old new : ℕ)
-    → SetOf (grammarIn rules p) test old → ((q : ℕ) → bitOf q new ≡ 0 → bitOf q old ≡ 0)
-    → (test (packedRule (getD rules p 0)) → bitOf p new ≡ 0 → ⊥) → SetOf (grammarIn rules (p + 1)) test new
-setOf-more rules p test old new so kept there q r e z t = elim (rule-more rules p q (rw add-one at e)) [
+setOf-more : (card : List ℕ) (p : ℕ) (test : Rule → Type 0) (old new : ℕ)
+    → SetOf (firstRules card p) test old → ((q : ℕ) → bitOf q new ≡ 0 → bitOf q old ≡ 0)
+    → (test (production card p) → bitOf p new ≡ 0 → ⊥) → SetOf (firstRules card (p + 1)) test new
+setOf-more card p test old new so kept there q r e z t = elim (last-rule card p q e) [
   | inl f ↦ so q r f (kept q z) t
   | inr (a, b) ↦ there (subst test b t) (subst (λ (k : ℕ). bitOf k new ≡ 0) a z)
 ]
@@ -219,28 +213,59 @@ classified-none by zeros =
       words = λ w. setOf-none (WordRule w) _;
     }
 
-pub classified-more : (rules : List ℕ) (p : ℕ) {old new : List ℕ} → p < length rules
-    → Classified (grammarIn rules p) old → Joined (packedRule (getD rules p 0)) p old new → Classified (grammarIn rules (p + 1)) new
-classified-more rules p {old} {new} there c j =
+pub classified-more : (card : List ℕ) (p : ℕ) {old new : List ℕ} → Classified (firstRules card p) old → Joined (production card p) p old new
+    → Classified (firstRules card (p + 1)) new
+classified-more card p {old} {new} c j =
     record {
       own = λ A h.
           record {
             has = more (leftIs A) A (c .own A h .has) (j .own A);
             noMore = λ q l. j .others A q (last q l) (c .own A h .noMore q (before q l));
           };
-      firstSides = λ A h. more (FirstSide A) (16 + A) (c .firstSides A h) (j .firstSide A);
-      firstDependents = λ A h. more (FirstDependent A) (32 + A) (c .firstDependents A h) (j .firstDependent A);
-      secondSides = λ A h. more (SecondSide A) (48 + A) (c .secondSides A h) (j .secondSide A);
-      secondDependents = λ A h. more (SecondDependent A) (64 + A) (c .secondDependents A h) (j .secondDependent A);
-      words = λ w. more (WordRule w) (80 + w % 32) (c .words w) (j .word w);
+      firstSides = λ A h. more (FirstSide A) (firstSideAt A) (c .firstSides A h) (j .firstSide A);
+      firstDependents = λ A h. more (FirstDependent A) (firstDependentAt A) (c .firstDependents A h) (j .firstDependent A);
+      secondSides = λ A h. more (SecondSide A) (secondSideAt A) (c .secondSides A h) (j .secondSide A);
+      secondDependents = λ A h. more (SecondDependent A) (secondDependentAt A) (c .secondDependents A h) (j .secondDependent A);
+      words = λ w. more (WordRule w) (wordAt w) (c .words w) (j .word w);
     }
   where
-    last : (q : ℕ) → length (grammarIn rules (p + 1)) ≤ q → q ≡ p → ⊥
-    last q l e = omega (arith, length-take (p + 1) (rulesFrom rules), rules-length rules)
+    last : (q : ℕ) → length (firstRules card (p + 1)) ≤ q → q ≡ p → ⊥
+    last q l e = omega (arith, rules-length card (p + 1))
 
-    before : (q : ℕ) → length (grammarIn rules (p + 1)) ≤ q → length (grammarIn rules p) ≤ q
-    before q l = omega (arith, length-take (p + 1) (rulesFrom rules), length-take p (rulesFrom rules), rules-length rules)
+    before : (q : ℕ) → length (firstRules card (p + 1)) ≤ q → length (firstRules card p) ≤ q
+    before q l = omega (arith, rules-length card (p + 1), rules-length card p)
 
-    more : (test : Rule → Type 0) (s : ℕ) → SetOf (grammarIn rules p) test (getD old s 0)
-        → (test (packedRule (getD rules p 0)) → Has p new s) → SetOf (grammarIn rules (p + 1)) test (getD new s 0)
-    more test s so = setOf-more rules p test (getD old s 0) (getD new s 0) so (j .kept s)
+    more : (test : Rule → Type 0) (s : ℕ) → SetOf (firstRules card p) test (getD old s 0) → (test (production card p) → Has p new s)
+        → SetOf (firstRules card (p + 1)) test (getD new s 0)
+    more test s so = setOf-more card p test (getD old s 0) (getD new s 0) so (j .kept s)
+
+-- The sets of the words that were looked at, in one.
+pub record WordsSoFar (by : List ℕ) (words rest set : ℕ) : Type 0 where
+  pub left : (w : ℕ) → bitOf w rest ≡ 1 → bitOf w words ≡ 1
+  pub has : (w p : ℕ) → bitOf w words ≡ 1 → bitOf w rest ≡ 0 → bitOf p set ≡ 0 → bitOf p (getD by (wordAt w) 0) ≡ 0
+
+pub words-none : (by : List ℕ) (words : ℕ) → WordsSoFar by words words 0
+words-none by words = record { left = λ w o. o; has = λ w p o z y. absurd (omega arith) }
+
+module _ {by : List ℕ} {words rest set : ℕ} (s : WordsSoFar by words rest set) where
+  -- A set of word numbers has none from its width on.
+  pub word-small : {w : ℕ} → words < 2 ^ maxWords → Least rest w → w < maxWords
+  word-small {w} fits least = elim (decLt w maxWords) [
+    | yes h ↦ h
+    | no h ↦ absurd (omega (arith, s .left w (least .has), bit-beyond maxWords w words fits (omega arith)))
+  ]
+
+  pub words-more : {w rest′ set′ : ℕ} → Without rest w rest′ → set′ ≡ bitOr set (getD by (wordAt w) 0) → WordsSoFar by words rest′ set′
+  words-more {w} gone e =
+      record {
+        left = λ q o. s .left q (without-has gone q o);
+        has = λ q p o z y.
+            let (u, v) = or-bits p set (getD by (wordAt w) 0) (sym (ap (bitOf p) e) ∙ y) in
+            elim (without-lacks gone q z) [
+              | inl k ↦ ap (λ (x : ℕ). bitOf p (getD by (wordAt x) 0)) k ∙ v
+              | inr k ↦ s .has q p o k u
+            ];
+      }
+
+  pub words-end : rest ≡ 0 → OfWords by words set
+  words-end z w p o = s .has w p o (ap (bitOf w) z ∙ bitOf-zero w)

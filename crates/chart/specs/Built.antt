@@ -1,31 +1,30 @@
 -- What the builder asks and promises.
 use Prim.Native.Nat.{ℕ, _+_, _*_, _≤_, _<_}
 use mathlib.Core.Path.{_≡_}
-use mathlib.Core.List.{List, _++_, map}
-use mathlib.Core.Option.{some}
-use lib.ListN.{length, drop, replicate, getElem?}
-use Rattle.grammar.specs.Rewriting.{Rule, Lexical}
-use Rattle.grammar.specs.Input.{Holds, wordIs}
+use mathlib.Core.Bool.{Bool}
+use mathlib.Core.List.{List, _++_}
+use lib.ListN.{length, drop, replicate}
+use Rattle.grammar.specs.Input.{Holds, Below}
 use Rattle.grammar.specs.ItemList.{items}
 use Rattle.grammar.specs.Chart.{Record, IsChart}
-use Rattle.layout.specs.Bytes.{counted}
-use Rattle.layout.specs.Card.{cardNumber, grammarOf, production}
-use Rattle.layout.specs.Records.{chartBytes, capacity}
+use Rattle.layout.specs.Card.{cardNumber, grammarOf}
+use Rattle.layout.specs.Line.{mostWords}
+use Rattle.layout.specs.Records.{recordLength, chartBytes, capacity}
+use Rattle.places.specs.Places.{wordTest}
 use Rattle.records.specs.Index.{spans}
 use Rattle.chart.specs.declared.Built.{Built}
 use Rattle.chart.specs.declared.Built.the-variants.{Chart, TooMany}
-use Rattle.chart.specs.Tables.{grammarIn, rulesFrom}
 
--- An accepted card, and at most 24 words.
-pub record Buildable (card words : List ℕ) (n : ℕ) : Type 0 where
+-- An accepted card, and sets of words at no more places than a line may have, none past the first n.
+pub record Buildable (card places : List ℕ) (n : ℕ) : Type 0 where
   pub accepted : cardNumber card ≡ 0
-  pub short : n ≤ 24
-  pub given : n ≤ length words
+  pub short : n ≤ mostWords
+  pub below : Below (Holds (wordTest places)) n
 
 -- A room for so many records; and tables for n words under N nonterminals, all 0.
 pub record RoomLent (room : ℕ) (chart : List ℕ) : Type 0 where
   pub small : room ≤ 65535
-  pub there : 16 * room ≤ length chart
+  pub there : recordLength * room ≤ length chart
 
 pub record TablesLent (n N : ℕ) (marks index sets covers : List ℕ) : Type 0 where
   pub marksZero : marks ≡ replicate (length marks) 0
@@ -37,16 +36,11 @@ pub record TablesLent (n N : ℕ) (marks index sets covers : List ℕ) : Type 0 
   pub setsThere : 2 * spans n + 2 * (n + 1) ≤ length sets
   pub coversThere : spans n * N ≤ length covers
 
--- The card's first `many` productions, packed, and word productions 0 → 0 after them.
-pub record DecodedAll (card : List ℕ) (many : ℕ) (rules : List ℕ) : Type 0 where
-  pub long : length rules ≡ 64
-  pub decoded : grammarIn rules many ≡ map (production card) (counted 0 many)
-  pub padded : (p : ℕ) (r : Rule) → many ≤ p → getElem? (rulesFrom rules) p ≡ some r → r ≡ Lexical 0 0
-
 -- The room afterwards: a chart, and then what was there; or, where the items outnumber what it holds, zeros. Which chart is free.
-abbrev pub BuiltRoom : List ℕ → List ℕ → ℕ → Built → List ℕ → List ℕ → Type 0
-BuiltRoom card words n (Chart count) old new =
-    (c : List Record) × IsChart (grammarOf card) (Holds (wordIs words)) c × (count ≡ length c) × (length c ≤ capacity (length old))
-    × (new ≡ chartBytes c ++ drop (16 * length c) old)
-BuiltRoom card words n TooMany old new =
-    (capacity (length old) < length (items (grammarOf card) (wordIs words) n)) × (new ≡ replicate (length old) 0)
+-- The line is read through a test of the words at its places.
+abbrev pub BuiltRoom : List ℕ → (ℕ → ℕ → Bool) → ℕ → Built → List ℕ → List ℕ → Type 0
+BuiltRoom card at n (Chart count) old new =
+    (c : List Record) × IsChart (grammarOf card) (Holds at) c × (count ≡ length c) × (length c ≤ capacity (length old))
+    × (new ≡ chartBytes c ++ drop (recordLength * length c) old)
+BuiltRoom card at n TooMany old new =
+    (capacity (length old) < length (items (grammarOf card) at n)) × (new ≡ replicate (length old) 0)

@@ -1,5 +1,5 @@
 -- What holds between two cells, and what filling cells promises.
-use Prim.Native.Nat.{ℕ, _+_, _*_, _%_, _^_, _≤_, _<_}
+use Prim.Native.Nat.{ℕ, _+_, _*_, _^_, _≤_, _<_}
 use mathlib.Core.Path.{_≡_}
 use mathlib.Core.Bool.{false}
 use mathlib.Core.List.{List, [], _∷_, _++_}
@@ -9,15 +9,35 @@ use lib.ListN.{length, take, drop, getD, getElem?, set}
 use Rattle.grammar.specs.Rewriting.{Rule, Lexical, Spine}
 use Rattle.grammar.specs.Items.{Foot}
 use Rattle.grammar.specs.Chart.{Record}
-use Rattle.records.specs.Bits.{bitOf}
+use Rattle.layout.specs.Card.{maxNonterminals, maxWords}
+use Rattle.layout.specs.Line.{mostWords}
+use Rattle.bits.specs.Bits.{bitOf}
 use Rattle.records.specs.Room.{chartIn, stateOf, FootFits, FeetFit, numberedChart, markOf}
 use Rattle.records.specs.Index.{spans, spanAt, Indexed}
 use Rattle.records.specs.Cover.{Covered}
 use Rattle.chart.specs.declared.sets.Meeting.{Meeting}
-use Rattle.chart.specs.Tables.{Rows, Sorted, leftIs, OwnSet}
+use Rattle.chart.specs.Tables.{bounds, Rows, Sorted, leftIs, OwnSet}
 
--- For each nonterminal A five sets of productions, at A, 16 + A, .., 64 + A: those of A; those whose first element is a side A, or a
--- dependent A; and those whose second is. Then 32 sets of word productions: those for the word w are in the one at 80 + w % 32.
+-- For each nonterminal A five sets of productions: those of A, at A; those whose first element is a side A, or a dependent A; and those
+-- whose second is. Then a set of word productions for each word.
+abbrev pub firstSideAt : ℕ → ℕ
+firstSideAt A = maxNonterminals + A
+
+abbrev pub firstDependentAt : ℕ → ℕ
+firstDependentAt A = 2 * maxNonterminals + A
+
+abbrev pub secondSideAt : ℕ → ℕ
+secondSideAt A = 3 * maxNonterminals + A
+
+abbrev pub secondDependentAt : ℕ → ℕ
+secondDependentAt A = 4 * maxNonterminals + A
+
+abbrev pub wordAt : ℕ → ℕ
+wordAt w = 5 * maxNonterminals + w
+
+abbrev pub setCount : ℕ
+setCount = 5 * maxNonterminals + maxWords
+
 abbrev pub FirstSide : ℕ → Rule → Type 0
 FirstSide A (Lexical A′ w) = ⊥
 FirstSide A (Spine A′ a [] D after) = ⊥
@@ -49,12 +69,12 @@ abbrev pub SetOf : List Rule → (Rule → Type 0) → ℕ → Type 0
 SetOf g test set = (p : ℕ) (r : Rule) → getElem? g p ≡ some r → bitOf p set ≡ 0 → test r → ⊥
 
 pub record Classified (g : List Rule) (by : List ℕ) : Type 0 where
-  pub own : (A : ℕ) → A < 16 → OwnSet g A (getD by A 0)
-  pub firstSides : (A : ℕ) → A < 16 → SetOf g (FirstSide A) (getD by (16 + A) 0)
-  pub firstDependents : (A : ℕ) → A < 16 → SetOf g (FirstDependent A) (getD by (32 + A) 0)
-  pub secondSides : (A : ℕ) → A < 16 → SetOf g (SecondSide A) (getD by (48 + A) 0)
-  pub secondDependents : (A : ℕ) → A < 16 → SetOf g (SecondDependent A) (getD by (64 + A) 0)
-  pub words : (w : ℕ) → SetOf g (WordRule w) (getD by (80 + w % 32) 0)
+  pub own : (A : ℕ) → A < maxNonterminals → OwnSet g A (getD by A 0)
+  pub firstSides : (A : ℕ) → A < maxNonterminals → SetOf g (FirstSide A) (getD by (firstSideAt A) 0)
+  pub firstDependents : (A : ℕ) → A < maxNonterminals → SetOf g (FirstDependent A) (getD by (firstDependentAt A) 0)
+  pub secondSides : (A : ℕ) → A < maxNonterminals → SetOf g (SecondSide A) (getD by (secondSideAt A) 0)
+  pub secondDependents : (A : ℕ) → A < maxNonterminals → SetOf g (SecondDependent A) (getD by (secondDependentAt A) 0)
+  pub words : (w : ℕ) → SetOf g (WordRule w) (getD by (wordAt w) 0)
 
 -- Production p into the set at a place; and into each set that its rule asks for, where no set loses a bit or
 -- gains another.
@@ -66,11 +86,11 @@ pub record Joined (r : Rule) (p : ℕ) (old new : List ℕ) : Type 0 where
   pub kept : (s q : ℕ) → bitOf q (getD new s 0) ≡ 0 → bitOf q (getD old s 0) ≡ 0
   pub others : (s q : ℕ) → (q ≡ p → ⊥) → bitOf q (getD old s 0) ≡ 0 → bitOf q (getD new s 0) ≡ 0
   pub own : (A : ℕ) → leftIs A r → bitOf p (getD new A 0) ≡ 0 → ⊥
-  pub firstSide : (A : ℕ) → FirstSide A r → bitOf p (getD new (16 + A) 0) ≡ 0 → ⊥
-  pub firstDependent : (A : ℕ) → FirstDependent A r → bitOf p (getD new (32 + A) 0) ≡ 0 → ⊥
-  pub secondSide : (A : ℕ) → SecondSide A r → bitOf p (getD new (48 + A) 0) ≡ 0 → ⊥
-  pub secondDependent : (A : ℕ) → SecondDependent A r → bitOf p (getD new (64 + A) 0) ≡ 0 → ⊥
-  pub word : (w : ℕ) → WordRule w r → bitOf p (getD new (80 + w % 32) 0) ≡ 0 → ⊥
+  pub firstSide : (A : ℕ) → FirstSide A r → bitOf p (getD new (firstSideAt A) 0) ≡ 0 → ⊥
+  pub firstDependent : (A : ℕ) → FirstDependent A r → bitOf p (getD new (firstDependentAt A) 0) ≡ 0 → ⊥
+  pub secondSide : (A : ℕ) → SecondSide A r → bitOf p (getD new (secondSideAt A) 0) ≡ 0 → ⊥
+  pub secondDependent : (A : ℕ) → SecondDependent A r → bitOf p (getD new (secondDependentAt A) 0) ≡ 0 → ⊥
+  pub word : (w : ℕ) → WordRule w r → bitOf p (getD new (wordAt w) 0) ≡ 0 → ⊥
 
 -- The least nonterminal from `from` on, and below N, that has a production in the set; or N.
 pub record NextLeft (by : List ℕ) (set from N A : ℕ) : Type 0 where
@@ -86,7 +106,7 @@ bothAt sets i k j = bitAnd (getD sets (2 * spanAt i k) 0) (getD sets (2 * spanAt
 -- A set of splits of i to j, with the productions of each, that has every split at which there is such a production; and a set that has
 -- the productions of every split.
 pub record Met (sets : List ℕ) (i j : ℕ) (both : List ℕ) (splits : ℕ) : Type 0 where
-  pub long : length both ≡ 25
+  pub long : length both ≡ bounds
   pub inside : (k : ℕ) → bitOf k splits ≡ 1 → (i < k) × (k < j)
   pub there : (k : ℕ) → bitOf k splits ≡ 1 → getD both k 0 ≡ bothAt sets i k j
   pub none : (k : ℕ) → i < k → k < j → bitOf k splits ≡ 0 → bothAt sets i k j ≡ 0
@@ -94,9 +114,13 @@ pub record Met (sets : List ℕ) (i j : ℕ) (both : List ℕ) (splits : ℕ) : 
 abbrev pub Meets : List ℕ → ℕ → ℕ → ℕ → Type 0
 Meets sets i j set = (p k : ℕ) → i < k → k < j → bitOf p set ≡ 0 → bitOf p (bothAt sets i k j) ≡ 0
 
--- What is found for a span: the set of its one word, or what meets at its splits.
-pub record SpanSet (by sets words : List ℕ) (i j : ℕ) (both : List ℕ) (r : Meeting) : Type 0 where
-  pub ofWord : j ≡ i + 1 → r .productions ≡ getD by (80 + getD words i 0 % 32) 0
+-- A set that has every production of the sets for some words.
+abbrev pub OfWords : List ℕ → ℕ → ℕ → Type 0
+OfWords by words set = (w p : ℕ) → bitOf w words ≡ 1 → bitOf p set ≡ 0 → bitOf p (getD by (wordAt w) 0) ≡ 0
+
+-- What is found for a span: the productions for the words of its one place, or what meets at its splits.
+pub record SpanSet (by sets places : List ℕ) (i j : ℕ) (both : List ℕ) (r : Meeting) : Type 0 where
+  pub ofWords : j ≡ i + 1 → OfWords by (getD places i 0) (r .productions)
   pub ofSplits : Meets sets i j (r .productions)
   pub met : Met sets i j both (r .splits)
 
@@ -107,16 +131,16 @@ pub record Noted (n : ℕ) (by : List ℕ) (A i j bare : ℕ) (old new : List �
   pub rows : Rows n new
   pub elsewhere : (s : ℕ) → s < 2 * spans n → (s ≡ 2 * spanAt i j → ⊥) → (s ≡ 2 * spanAt i j + 1 → ⊥) → getD new s 0 ≡ getD old s 0
   pub firsts : (p : ℕ) → bitOf p (getD new (2 * spanAt i j) 0) ≡ 0
-      → (bitOf p (getD old (2 * spanAt i j) 0) ≡ 0) × (bitOf p (getD by (32 + A) 0) ≡ 0)
-      × ((bare ≡ 0 → ⊥) → bitOf p (getD by (16 + A) 0) ≡ 0)
+      → (bitOf p (getD old (2 * spanAt i j) 0) ≡ 0) × (bitOf p (getD by (firstDependentAt A) 0) ≡ 0)
+      × ((bare ≡ 0 → ⊥) → bitOf p (getD by (firstSideAt A) 0) ≡ 0)
   pub seconds : (p : ℕ) → bitOf p (getD new (2 * spanAt i j + 1) 0) ≡ 0
-      → (bitOf p (getD old (2 * spanAt i j + 1) 0) ≡ 0) × (bitOf p (getD by (64 + A) 0) ≡ 0)
-      × ((bare ≡ 0 → ⊥) → bitOf p (getD by (48 + A) 0) ≡ 0)
+      → (bitOf p (getD old (2 * spanAt i j + 1) 0) ≡ 0) × (bitOf p (getD by (secondDependentAt A) 0) ≡ 0)
+      × ((bare ≡ 0 → ⊥) → bitOf p (getD by (secondSideAt A) 0) ≡ 0)
 
 -- Between two cells: the room and the tables agree, and no foot is marked.
 pub record Between (g : List Rule) (n N room : ℕ) (chart marks index covers sets : List ℕ) (count : ℕ) : Type 0 where
-  pub wordsFit : n ≤ 24
-  pub symbolsFit : N ≤ 16
+  pub wordsFit : n ≤ mostWords
+  pub symbolsFit : N ≤ maxNonterminals
   pub roomSmall : room ≤ 65535
   pub roomThere : 16 * room ≤ length chart
   pub marksThere : spans n * N < length marks

@@ -1,4 +1,4 @@
--- The sets beside the room: which productions have an element over a span; and the packed productions as a grammar.
+-- The sets beside the room: which productions have an element over a span; and the card as the builder has it.
 use Prim.Native.Nat.{ℕ, zero, suc, _+_, _*_, _-_, _/_, _%_, _≤_, _<_}
 use mathlib.Core.Path.{_≡_}
 use mathlib.Core.Logic.{_⊎_}
@@ -6,28 +6,21 @@ use mathlib.Core.Bool.{Bool, false, cond, _&&_}
 use mathlib.Core.List.{List, [], _∷_}
 use mathlib.Core.Option.{Option, none, some}
 use lib.Dec.{eqb}
-use lib.ListN.{length, getD, getElem?, take}
+use lib.ListN.{length, getD, getElem?}
 use Rattle.grammar.specs.Rewriting.{Rule, Lexical, Spine}
 use Rattle.grammar.specs.ItemList.{isBare}
 use Rattle.grammar.specs.Chart.{Record}
-use Rattle.layout.specs.Card.{ruleOf}
-use Rattle.chart_model.specs.Build.{places, barePlaces, turned, byRuleOver}
-use Rattle.records.specs.Bits.{bitOf, holdsBit}
+use Rattle.layout.specs.Card.{nonterminalCount, productionTable, cardNumber}
+use Rattle.layout.specs.Line.{mostWords}
+use Rattle.chart_model.specs.Build.{places, barePlaces, turned, byRuleOver, byProduction}
+use Rattle.bits.specs.Bits.{bitOf, holdsBit}
 use Rattle.records.specs.Room.{footThere, numberThere}
 use Rattle.records.specs.Index.{spans, spanAt}
 use Rattle.records.specs.declared.index.Range.{Range}
-use Rattle.steps.specs.Fits.{RuleFits}
 
--- The least number of a set of bits; and a set without one of its numbers.
-pub record Least (set k : ℕ) : Type 0 where
-  pub small : k < 64
-  pub has : bitOf k set ≡ 1
-  pub first : (q : ℕ) → q < k → bitOf q set ≡ 0
-
-pub record Without (set k rest : ℕ) : Type 0 where
-  pub gone : bitOf k rest ≡ 0
-  pub kept : (q : ℕ) → (q ≡ k → ⊥) → bitOf q rest ≡ bitOf q set
-  pub less : rest < set
+-- The bounds of the words of a line, at which a span starts, is split or ends.
+abbrev pub bounds : ℕ
+bounds = mostWords + 1
 
 -- Neither element of a rule over a split: what the sets let the builder pass over.
 abbrev pub FirstAbsent : List Record → ℕ → ℕ → Rule → Type 0
@@ -86,42 +79,28 @@ pub record OwnSet (g : List Rule) (A own : ℕ) : Type 0 where
   pub has : (p : ℕ) (r : Rule) → getElem? g p ≡ some r → bitOf p own ≡ 0 → leftIs A r → ⊥
   pub noMore : (p : ℕ) → length g ≤ p → bitOf p own ≡ 0
 
--- A production packed into one number, a byte for each of its kind, its left side, its two elements and its index. The rules of such
--- numbers, and the first `many` of them as a grammar.
-abbrev pub packedRule : ℕ → Rule
-packedRule w = ruleOf (w % 256) (w / 256 % 256) (w / 65536 % 256) (w / 16777216 % 256) (w / 4294967296 % 256)
-
-abbrev pub rulesFrom : List ℕ → List Rule
-rulesFrom [] = []
-rulesFrom (w ∷ rules) = packedRule w ∷ rulesFrom rules
-
-abbrev pub grammarIn : List ℕ → ℕ → List Rule
-grammarIn rules many = take many (rulesFrom rules)
-
-pub record RulesFit (N : ℕ) (rules : List ℕ) : Type 0 where
-  pub long : length rules ≡ 64
-  pub fits : (p : ℕ) (r : Rule) → getElem? (rulesFrom rules) p ≡ some r → RuleFits N r
+-- An accepted card, the place where its productions start, and the number of its nonterminals.
+pub record CardGiven (card : List ℕ) (table N : ℕ) : Type 0 where
+  pub accepted : cardNumber card ≡ 0
+  pub starts : table ≡ productionTable card
+  pub names : N ≡ nonterminalCount card
 
 -- The records of production p in a cell, if the set has it.
-abbrev pub byOne : (ℕ → ℕ → Bool) → List Record → ℕ → ℕ → ℕ → ℕ → Option Rule → List Record
-byOne at b A i len p none = []
-byOne at b A i len p (some r) = byRuleOver at b A i len p r
-
-abbrev pub chosen : ℕ → List ℕ → (ℕ → ℕ → Bool) → List Record → ℕ → ℕ → ℕ → ℕ → List Record
-chosen set rules at b A i len p = cond (holdsBit p set) (byOne at b A i len p (getElem? (rulesFrom rules) p)) []
+abbrev pub chosen : ℕ → List Rule → (ℕ → ℕ → Bool) → List Record → ℕ → ℕ → ℕ → ℕ → List Record
+chosen set g at b A i len p = cond (holdsBit p set) (byProduction g at b A i len p) []
 
 -- A production that is not in the set adds nothing to a cell; and the set has no bit past the last production.
 pub record CellSet (g : List Rule) (at : ℕ → ℕ → Bool) (b : List Record) (A i len set : ℕ) : Type 0 where
   pub idle : (p : ℕ) (r : Rule) → getElem? g p ≡ some r → bitOf p set ≡ 0 → byRuleOver at b A i len p r ≡ []
   pub noMore : (p : ℕ) → length g ≤ p → bitOf p set ≡ 0
 
--- The word at the present place; and whether a rule is the word production of A for it.
-abbrev pub thisWord : ℕ → ℕ → ℕ → Bool
-thisWord w i w′ = eqb w w′
+-- One of a set of words, at whatever place; and whether a rule is a word production of A for one of them.
+abbrev pub oneOf : ℕ → ℕ → ℕ → Bool
+oneOf words i w = holdsBit w words
 
 abbrev pub isWordOf : ℕ → ℕ → Rule → Bool
-isWordOf A w (Lexical A′ w′) = eqb A′ A && eqb w w′
-isWordOf A w (Spine A′ a before D after) = false
+isWordOf A words (Lexical A′ w) = eqb A′ A && holdsBit w words
+isWordOf A words (Spine A′ a before D after) = false
 
 -- A cell is finished: no mark is left of its records from base on, other marks are as they were, and its range is known.
 abbrev pub bareFrom : List ℕ → ℕ → ℕ → ℕ

@@ -1,17 +1,22 @@
 // Cell by cell, span by span, end by end: the spans of an end from the shortest.
+use crate::sets::BOUNDS;
 use crate::sets::Meeting;
+use crate::sets::SETS;
+use octets::wide;
+use places::MOST_WORDS;
 use records::add::Sizes;
 use records::record::Cell;
-use records::record::wide;
 ghost use mathlib.Core.Path.{_≡_};
 ghost use mathlib.Core.List.{[]};
 ghost use mathlib.Core.Option.{some};
 ghost use Prim.Native.Nat.{ℕ, _+_, _-_, _≤_, _<_};
-ghost use lib.ListN.{length, take};
-ghost use Rattle.grammar.specs.Input.{wordIs};
-ghost use Rattle.chart_model.specs.Build.{places, fillCell, closeSpan, closeEnd, build};
+ghost use lib.ListN.{length};
+ghost use Rattle.layout.specs.Card.{grammarOf};
+ghost use Rattle.layout.specs.Line.{mostWords};
+ghost use Rattle.places.specs.Places.{wordTest};
+ghost use Rattle.chart_model.specs.Build.{places as positions, fillCell, closeSpan, closeEnd, build};
 ghost use Rattle.records.specs.Room.{chartIn};
-ghost use Rattle.chart.specs.Tables.{Splits, CellSet, grammarIn, RulesFit, Rows};
+ghost use Rattle.chart.specs.Tables.{bounds, CardGiven, Splits, CellSet, Rows};
 ghost use Rattle.chart.specs.Fill.{Classified, Between, Filled, SpanSet, Closed};
 
 // One cell: its records, and then its place in the tables. The set has every production that can add to it.
@@ -21,19 +26,28 @@ fn fill_cell(
     index: &mut [u16],
     covers: &mut [u16],
     sets: &mut [u64],
-    both: &[u64; 25],
+    both: &[u64; BOUNDS],
     splits: u64,
-    by: &[u64; 112],
+    by: &[u64; SETS],
     z: Sizes,
     c: Cell,
-    rules: &[u64; 64],
-    many: usize,
-    words: &[u8; 24],
+    card: &[u8],
+    table: usize,
+    places: &[u32; MOST_WORDS],
     set: u64,
     count: usize,
 ) -> usize
-    requires { ⌜ Between (grammarIn (now rules) many) (z .words) (z .symbols) (z .room) (now chart) (now marks) (now index) (now covers) (now sets) count × (z .base ≡ count) × RulesFit (z .symbols) (now rules) × Classified (grammarIn (now rules) many) (now by) × (c .left < z .symbols) × (c .from < c .to) × (c .to ≤ z .words) × (many ≤ 64) × (places (chartIn (now chart) count) (c .left) (c .from) (c .to) ≡ []) × CellSet (grammarIn (now rules) many) (wordIs (take (z .words) (now words))) (chartIn (now chart) count) (c .left) (c .from) (c .to - c .from) set × (z .words ≤ length (now words)) × Splits (grammarIn (now rules) many) (chartIn (now chart) count) (c .from) (c .to) (now both) splits ⌝ }
-    ensures { λ r. ⌜ Filled (grammarIn (now (rules .entry)) many) (z .words) (z .symbols) (z .room) (fillCell (z .room) (grammarIn (now (rules .entry)) many) (wordIs (take (z .words) (now (words .entry)))) (c .to - c .from) (c .from) (c .left) (some (chartIn (now (chart .entry)) count))) (now (chart .entry)) (now (chart .exit)) (now (marks .exit)) (now (index .exit)) (now (covers .exit)) (now (sets .exit)) r ⌝ }
+    requires { ⌜ Between (grammarOf (now card)) (z .words) (z .symbols) (z .room)
+        (now chart) (now marks) (now index) (now covers) (now sets) count
+        × (z .base ≡ count) × CardGiven (now card) table (z .symbols) × Classified (grammarOf (now card)) (now by)
+        × (c .left < z .symbols) × (c .from < c .to) × (c .to ≤ z .words)
+        × (positions (chartIn (now chart) count) (c .left) (c .from) (c .to) ≡ [])
+        × CellSet (grammarOf (now card)) (wordTest (now places)) (chartIn (now chart) count) (c .left) (c .from) (c .to - c .from) set
+        × Splits (grammarOf (now card)) (chartIn (now chart) count) (c .from) (c .to) (now both) splits ⌝ }
+    ensures { λ r. ⌜ Filled (grammarOf (now (card .entry))) (z .words) (z .symbols) (z .room)
+        (fillCell (z .room) (grammarOf (now (card .entry))) (wordTest (now (places .entry))) (c .to - c .from) (c .from) (c .left)
+        (some (chartIn (now (chart .entry)) count)))
+        (now (chart .entry)) (now (chart .exit)) (now (marks .exit)) (now (index .exit)) (now (covers .exit)) (now (sets .exit)) r ⌝ }
 {
     let total = crate::cell::fill_items(
         chart,
@@ -44,9 +58,9 @@ fn fill_cell(
         splits,
         z,
         c,
-        rules,
-        many,
-        words,
+        card,
+        table,
+        places,
         set,
         count,
     );
@@ -63,24 +77,25 @@ fn fill_cell(
     total
 }
 
-// What can add to a span: the word productions for its word, or those with both elements at some split, and these splits.
+// What can add to a span: the word productions for the words of its place, or those with both elements at some split, and these splits.
 fn span_set(
     sets: &[u64],
-    both: &mut [u64; 25],
-    by: &[u64; 112],
+    both: &mut [u64; BOUNDS],
+    by: &[u64; SETS],
     n: usize,
     i: usize,
     j: usize,
-    words: &[u8; 24],
+    places: &[u32; MOST_WORDS],
 ) -> Meeting
-    requires { ⌜ (n ≤ 24) × (i < j) × (j ≤ n) × Rows n (now sets) × (length (now both) ≡ 25) ⌝ }
-    ensures { λ r. ⌜ SpanSet (now (by .entry)) (now (sets .entry)) (now (words .entry)) i j (now (both .exit)) r ⌝ }
+    requires { ⌜ (n ≤ mostWords) × (i < j) × (j ≤ n) × Rows n (now sets) × (length (now both) ≡ bounds) ⌝ }
+    ensures { λ r. ⌜ SpanSet (now (by .entry)) (now (sets .entry)) (now (places .entry)) i j (now (both .exit)) r ⌝ }
 {
     if j - i == 1 {
-        let w = words[i];
+        let words = places[i];
+        let productions = crate::sets::of_words(by, words);
         return Meeting {
             splits: 0,
-            productions: by[80 + wide(w) % 32],
+            productions,
         };
     }
     crate::sets::meet(sets, n, i, j, both)
@@ -93,23 +108,29 @@ fn fill_left(
     index: &mut [u16],
     covers: &mut [u16],
     sets: &mut [u64],
-    both: &[u64; 25],
+    both: &[u64; BOUNDS],
     splits: u64,
-    by: &[u64; 112],
+    by: &[u64; SETS],
     n: usize,
     symbols: usize,
     room: usize,
     a: usize,
     i: usize,
     j: usize,
-    rules: &[u64; 64],
-    many: usize,
-    words: &[u8; 24],
+    card: &[u8],
+    table: usize,
+    places: &[u32; MOST_WORDS],
     set: u64,
     count: usize,
 ) -> usize
-    requires { ⌜ Between (grammarIn (now rules) many) n symbols room (now chart) (now marks) (now index) (now covers) (now sets) count × RulesFit symbols (now rules) × Classified (grammarIn (now rules) many) (now by) × (a < symbols) × (i < j) × (j ≤ n) × (many ≤ 64) × (places (chartIn (now chart) count) a i j ≡ []) × CellSet (grammarIn (now rules) many) (wordIs (take n (now words))) (chartIn (now chart) count) a i (j - i) set × (n ≤ length (now words)) × Splits (grammarIn (now rules) many) (chartIn (now chart) count) i j (now both) splits ⌝ }
-    ensures { λ r. ⌜ Filled (grammarIn (now (rules .entry)) many) n symbols room (fillCell room (grammarIn (now (rules .entry)) many) (wordIs (take n (now (words .entry)))) (j - i) i a (some (chartIn (now (chart .entry)) count))) (now (chart .entry)) (now (chart .exit)) (now (marks .exit)) (now (index .exit)) (now (covers .exit)) (now (sets .exit)) r ⌝ }
+    requires { ⌜ Between (grammarOf (now card)) n symbols room (now chart) (now marks) (now index) (now covers) (now sets) count
+        × CardGiven (now card) table symbols × Classified (grammarOf (now card)) (now by) × (a < symbols) × (i < j) × (j ≤ n)
+        × (positions (chartIn (now chart) count) a i j ≡ [])
+        × CellSet (grammarOf (now card)) (wordTest (now places)) (chartIn (now chart) count) a i (j - i) set
+        × Splits (grammarOf (now card)) (chartIn (now chart) count) i j (now both) splits ⌝ }
+    ensures { λ r. ⌜ Filled (grammarOf (now (card .entry))) n symbols room
+        (fillCell room (grammarOf (now (card .entry))) (wordTest (now (places .entry))) (j - i) i a (some (chartIn (now (chart .entry)) count)))
+        (now (chart .entry)) (now (chart .exit)) (now (marks .exit)) (now (index .exit)) (now (covers .exit)) (now (sets .exit)) r ⌝ }
 {
     let z = Sizes {
         words: n,
@@ -133,9 +154,9 @@ fn fill_left(
         by,
         z,
         c,
-        rules,
-        many,
-        words,
+        card,
+        table,
+        places,
         set,
         count,
     )
@@ -148,22 +169,28 @@ fn close_span(
     index: &mut [u16],
     covers: &mut [u16],
     sets: &mut [u64],
-    both: &mut [u64; 25],
-    by: &[u64; 112],
+    both: &mut [u64; BOUNDS],
+    by: &[u64; SETS],
     n: usize,
     symbols: usize,
     room: usize,
     i: usize,
     j: usize,
-    rules: &[u64; 64],
-    many: usize,
-    words: &[u8; 24],
+    card: &[u8],
+    table: usize,
+    places: &[u32; MOST_WORDS],
     count: usize,
 ) -> usize
-    requires { ⌜ Between (grammarIn (now rules) many) n symbols room (now chart) (now marks) (now index) (now covers) (now sets) count × RulesFit symbols (now rules) × Classified (grammarIn (now rules) many) (now by) × (i < j) × (j ≤ n) × (many ≤ 64) × ((A : ℕ) → places (chartIn (now chart) count) A i j ≡ []) × (n ≤ length (now words)) × (length (now both) ≡ 25) ⌝ }
-    ensures { λ r. ⌜ Filled (grammarIn (now (rules .entry)) many) n symbols room (closeSpan room (grammarIn (now (rules .entry)) many) (wordIs (take n (now (words .entry)))) symbols (j - i) i (some (chartIn (now (chart .entry)) count))) (now (chart .entry)) (now (chart .exit)) (now (marks .exit)) (now (index .exit)) (now (covers .exit)) (now (sets .exit)) r × (length (now (both .exit)) ≡ 25) ⌝ }
+    requires { ⌜ Between (grammarOf (now card)) n symbols room (now chart) (now marks) (now index) (now covers) (now sets) count
+        × CardGiven (now card) table symbols × Classified (grammarOf (now card)) (now by) × (i < j) × (j ≤ n)
+        × ((A : ℕ) → positions (chartIn (now chart) count) A i j ≡ []) × (length (now both) ≡ bounds) ⌝ }
+    ensures { λ r. ⌜ Filled (grammarOf (now (card .entry))) n symbols room
+        (closeSpan room (grammarOf (now (card .entry))) (wordTest (now (places .entry))) symbols (j - i) i
+        (some (chartIn (now (chart .entry)) count)))
+        (now (chart .entry)) (now (chart .exit)) (now (marks .exit)) (now (index .exit)) (now (covers .exit)) (now (sets .exit)) r
+        × (length (now (both .exit)) ≡ bounds) ⌝ }
 {
-    let met = span_set(sets, both, by, n, i, j, words);
+    let met = span_set(sets, both, by, n, i, j, places);
     let set = met.productions;
     let splits = met.splits;
     if set == 0 {
@@ -188,9 +215,9 @@ fn close_span(
             a,
             i,
             j,
-            rules,
-            many,
-            words,
+            card,
+            table,
+            places,
             own,
             total,
         );
@@ -209,19 +236,24 @@ fn close_end(
     index: &mut [u16],
     covers: &mut [u16],
     sets: &mut [u64],
-    both: &mut [u64; 25],
-    by: &[u64; 112],
+    both: &mut [u64; BOUNDS],
+    by: &[u64; SETS],
     n: usize,
     symbols: usize,
     room: usize,
     e: usize,
-    rules: &[u64; 64],
-    many: usize,
-    words: &[u8; 24],
+    card: &[u8],
+    table: usize,
+    places: &[u32; MOST_WORDS],
     count: usize,
 ) -> usize
-    requires { ⌜ Between (grammarIn (now rules) many) n symbols room (now chart) (now marks) (now index) (now covers) (now sets) count × RulesFit symbols (now rules) × Classified (grammarIn (now rules) many) (now by) × (e < n) × (many ≤ 64) × ((A i : ℕ) → places (chartIn (now chart) count) A i (e + 1) ≡ []) × (n ≤ length (now words)) × (length (now both) ≡ 25) ⌝ }
-    ensures { λ r. ⌜ Filled (grammarIn (now (rules .entry)) many) n symbols room (closeEnd room (grammarIn (now (rules .entry)) many) (wordIs (take n (now (words .entry)))) symbols e (some (chartIn (now (chart .entry)) count))) (now (chart .entry)) (now (chart .exit)) (now (marks .exit)) (now (index .exit)) (now (covers .exit)) (now (sets .exit)) r × (length (now (both .exit)) ≡ 25) ⌝ }
+    requires { ⌜ Between (grammarOf (now card)) n symbols room (now chart) (now marks) (now index) (now covers) (now sets) count
+        × CardGiven (now card) table symbols × Classified (grammarOf (now card)) (now by) × (e < n)
+        × ((A i : ℕ) → positions (chartIn (now chart) count) A i (e + 1) ≡ []) × (length (now both) ≡ bounds) ⌝ }
+    ensures { λ r. ⌜ Filled (grammarOf (now (card .entry))) n symbols room
+        (closeEnd room (grammarOf (now (card .entry))) (wordTest (now (places .entry))) symbols e (some (chartIn (now (chart .entry)) count)))
+        (now (chart .entry)) (now (chart .exit)) (now (marks .exit)) (now (index .exit)) (now (covers .exit)) (now (sets .exit)) r
+        × (length (now (both .exit)) ≡ bounds) ⌝ }
 {
     let mut m = 0;
     let mut total = count;
@@ -239,9 +271,9 @@ fn close_end(
             room,
             e - m,
             e + 1,
-            rules,
-            many,
-            words,
+            card,
+            table,
+            places,
             total,
         );
         if room < total {
@@ -259,17 +291,19 @@ pub fn close_all(
     index: &mut [u16],
     covers: &mut [u16],
     sets: &mut [u64],
-    both: &mut [u64; 25],
-    by: &[u64; 112],
+    both: &mut [u64; BOUNDS],
+    by: &[u64; SETS],
     n: usize,
     symbols: usize,
     room: usize,
-    rules: &[u64; 64],
-    many: usize,
-    words: &[u8; 24],
+    card: &[u8],
+    table: usize,
+    places: &[u32; MOST_WORDS],
 ) -> usize
-    requires { ⌜ Between (grammarIn (now rules) many) n symbols room (now chart) (now marks) (now index) (now covers) (now sets) 0 × RulesFit symbols (now rules) × Classified (grammarIn (now rules) many) (now by) × (many ≤ 64) × (n ≤ length (now words)) × (length (now both) ≡ 25) ⌝ }
-    ensures { λ r. ⌜ Closed n symbols room (build room (grammarIn (now (rules .entry)) many) (wordIs (take n (now (words .entry)))) symbols n) (now (chart .entry)) (now (chart .exit)) r ⌝ }
+    requires { ⌜ Between (grammarOf (now card)) n symbols room (now chart) (now marks) (now index) (now covers) (now sets) 0
+        × CardGiven (now card) table symbols × Classified (grammarOf (now card)) (now by) × (length (now both) ≡ bounds) ⌝ }
+    ensures { λ r. ⌜ Closed n symbols room
+        (build room (grammarOf (now (card .entry))) (wordTest (now (places .entry))) symbols n) (now (chart .entry)) (now (chart .exit)) r ⌝ }
 {
     let mut e = 0;
     let mut total = 0;
@@ -286,9 +320,9 @@ pub fn close_all(
             symbols,
             room,
             e,
-            rules,
-            many,
-            words,
+            card,
+            table,
+            places,
             total,
         );
         if room < total {

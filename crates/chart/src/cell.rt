@@ -1,24 +1,27 @@
 // One cell: the items of A over i to j.
+use crate::sets::BOUNDS;
+use card::Card;
 use card::Production;
+use octets::wide;
+use places::MOST_WORDS;
 use records::add::Sizes;
 use records::index::Range;
 use records::record::Cell;
 use records::record::Foot;
 use records::record::NOWHERE;
 use records::record::Origin;
-use records::record::wide;
 ghost use mathlib.Core.Path.{_≡_};
 ghost use Prim.Native.Nat.{_+_, _-_, _≤_, _<_};
-ghost use lib.ListN.{length, getD, take};
-ghost use Rattle.grammar.specs.Input.{wordIs};
+ghost use Rattle.layout.specs.Card.{maxProductions, productionCount, production, grammarOf};
 ghost use Rattle.card.specs.Productions.{ruleFrom};
-ghost use Rattle.chart_model.specs.Build.{byWord, acrossSplits, byRuleOver, candidates};
+ghost use Rattle.places.specs.Places.{wordTest};
+ghost use Rattle.chart_model.specs.Build.{dependentFirst, byWord, acrossSplits, byRuleOver, candidates};
 ghost use Rattle.records.specs.Room.{chartIn, Working, Added};
 ghost use Rattle.records.specs.Index.{Indexed, SpanFits};
 ghost use Rattle.records.specs.Cover.{Covering, Advanced};
-ghost use Rattle.chart.specs.Tables.{Splits, CellSet, packedRule, grammarIn, RulesFit, thisWord, isWordOf, Finished};
+ghost use Rattle.chart.specs.Tables.{CardGiven, Splits, CellSet, oneOf, isWordOf, Finished};
 
-// What production p adds at a place with word w: a bare item, whose number comes after those of all feet with an index.
+// What production p adds at a place with a set of words: a bare item, whose number comes after those of all feet with an index.
 fn at_word(
     chart: &mut [u8],
     marks: &mut [u8],
@@ -26,13 +29,16 @@ fn at_word(
     c: Cell,
     p: usize,
     rule: Production,
-    w: u8,
+    words: u32,
     count: usize,
 ) -> usize
-    requires { ⌜ Working (z .words) (z .symbols) (z .room) (c .left) (c .from) (c .to) (now chart) (now marks) count × (c .to ≡ c .from + 1) × (p < 64) ⌝ }
-    ensures { λ r. ⌜ Added (z .words) (z .symbols) (z .room) (c .left) (c .from) (c .to) (byWord (thisWord w) (c .left) (c .from) p (ruleFrom rule)) (now (chart .entry)) (now (marks .entry)) count (now (chart .exit)) (now (marks .exit)) r ⌝ }
+    requires { ⌜ Working (z .words) (z .symbols) (z .room) (c .left) (c .from) (c .to) (now chart) (now marks) count
+        × (c .to ≡ c .from + 1) × (p < maxProductions) ⌝ }
+    ensures { λ r. ⌜ Added (z .words) (z .symbols) (z .room) (c .left) (c .from) (c .to)
+        (byWord (oneOf words) (c .left) (c .from) p (ruleFrom rule))
+        (now (chart .entry)) (now (marks .entry)) count (now (chart .exit)) (now (marks .exit)) r ⌝ }
 {
-    if is_word(rule, c.left, w) {
+    if is_word(rule, c.left, words) {
         let f = Foot {
             index: 0,
             symbol: 255,
@@ -51,16 +57,16 @@ fn at_word(
     count
 }
 
-// Is the rule the word production of a nonterminal for a word?
-fn is_word(rule: Production, a: u8, w: u8) -> bool
-    ensures { λ r. ⌜ r ≡ isWordOf a w (ruleFrom rule) ⌝ }
+// Is the rule a word production of a nonterminal, for a word of a set?
+fn is_word(rule: Production, a: u8, words: u32) -> bool
+    ensures { λ r. ⌜ r ≡ isWordOf a words (ruleFrom rule) ⌝ }
 {
     match rule {
         Production::Word { left, word } => {
             if left != a {
                 return false;
             }
-            word == w
+            bits::has(words, word)
         }
         Production::SideFirst {
             left: _,
@@ -77,34 +83,63 @@ fn is_word(rule: Production, a: u8, w: u8) -> bool
     }
 }
 
+// Does a side stand last, after the dependent?
+fn side_is_last(rule: Production) -> bool
+    ensures { λ r. ⌜ r ≡ dependentFirst (ruleFrom rule) ⌝ }
+{
+    match rule {
+        Production::Word { left: _, word: _ } => false,
+        Production::SideFirst {
+            left: _,
+            action: _,
+            side: _,
+            dependent: _,
+        } => false,
+        Production::SideLast {
+            left: _,
+            action: _,
+            dependent: _,
+            side: _,
+        } => true,
+    }
+}
+
 // What production p adds at every split of the span, turn by turn. At a turn that is left out one of its elements is missing.
 fn across_splits(
     chart: &mut [u8],
     marks: &mut [u8],
     index: &[u16],
     covers: &mut [u16],
-    both: &[u64; 25],
+    both: &[u64; BOUNDS],
     splits: u64,
     z: Sizes,
     c: Cell,
-    rules: &[u64; 64],
-    many: usize,
+    card: &[u8],
+    table: usize,
     p: usize,
     count: usize,
 ) -> usize
-    requires { ⌜ Working (z .words) (z .symbols) (z .room) (c .left) (c .from) (c .to) (now chart) (now marks) count × (z .base ≤ count) × Indexed (z .words) (z .symbols) (chartIn (now chart) (z .base)) (now index) × RulesFit (z .symbols) (now rules) × (c .from < c .to) × (c .to ≤ z .words) × (many ≤ 64) × (p < many) × Splits (grammarIn (now rules) many) (chartIn (now chart) (z .base)) (c .from) (c .to) (now both) splits × Covering (z .words) (z .symbols) (c .left) (c .from) (c .to) (chartIn (now chart) (z .base)) (chartIn (now chart) count) (now covers) × SpanFits (z .words) (z .symbols) (c .left) (c .from) (c .to) ⌝ }
-    ensures { λ r. ⌜ Advanced (z .words) (z .symbols) (z .room) (c .left) (c .from) (c .to) (z .base) (acrossSplits (chartIn (now (chart .entry)) (z .base)) (c .left) (c .from) (c .to) p (packedRule (getD (now (rules .entry)) p 0))) (now (chart .entry)) (now (marks .entry)) count (now (chart .exit)) (now (marks .exit)) (now (covers .exit)) r ⌝ }
+    requires { ⌜ Working (z .words) (z .symbols) (z .room) (c .left) (c .from) (c .to) (now chart) (now marks) count
+        × (z .base ≤ count) × Indexed (z .words) (z .symbols) (chartIn (now chart) (z .base)) (now index)
+        × CardGiven (now card) table (z .symbols) × (c .from < c .to) × (c .to ≤ z .words) × (p < productionCount (now card))
+        × Splits (grammarOf (now card)) (chartIn (now chart) (z .base)) (c .from) (c .to) (now both) splits
+        × Covering (z .words) (z .symbols) (c .left) (c .from) (c .to)
+        (chartIn (now chart) (z .base)) (chartIn (now chart) count) (now covers)
+        × SpanFits (z .words) (z .symbols) (c .left) (c .from) (c .to) ⌝ }
+    ensures { λ r. ⌜ Advanced (z .words) (z .symbols) (z .room) (c .left) (c .from) (c .to) (z .base)
+        (acrossSplits (chartIn (now (chart .entry)) (z .base)) (c .left) (c .from) (c .to) p (production (now (card .entry)) p))
+        (now (chart .entry)) (now (marks .entry)) count (now (chart .exit)) (now (marks .exit)) (now (covers .exit)) r ⌝ }
 {
-    let rule = crate::rules::rule_at(rules, p);
-    let back = crate::rules::side_is_last(rule);
+    let rule = Card::production(card, table, p);
+    let back = side_is_last(rule);
     let sum = wide(c.from) + wide(c.to);
     let turns = crate::sets::turns_of(both, splits, p, back, sum);
     let mut rest = turns;
     let mut total = count;
     while rest != 0 {
-        let m = crate::bits::least(rest);
+        let m = bits::least(rest);
         let k = crate::sets::turned(m, back, sum);
-        rest = crate::bits::without(rest, m);
+        rest = bits::without(rest, m);
         total = steps::step::by_production(
             chart,
             marks,
@@ -130,25 +165,34 @@ fn by_rule_over(
     marks: &mut [u8],
     index: &[u16],
     covers: &mut [u16],
-    both: &[u64; 25],
+    both: &[u64; BOUNDS],
     splits: u64,
     z: Sizes,
     c: Cell,
-    rules: &[u64; 64],
-    many: usize,
-    words: &[u8; 24],
+    card: &[u8],
+    table: usize,
+    places: &[u32; MOST_WORDS],
     p: usize,
     count: usize,
 ) -> usize
-    requires { ⌜ Working (z .words) (z .symbols) (z .room) (c .left) (c .from) (c .to) (now chart) (now marks) count × (z .base ≤ count) × Indexed (z .words) (z .symbols) (chartIn (now chart) (z .base)) (now index) × RulesFit (z .symbols) (now rules) × (c .from < c .to) × (c .to ≤ z .words) × (many ≤ 64) × (p < many) × Splits (grammarIn (now rules) many) (chartIn (now chart) (z .base)) (c .from) (c .to) (now both) splits × (z .words ≤ length (now words)) × Covering (z .words) (z .symbols) (c .left) (c .from) (c .to) (chartIn (now chart) (z .base)) (chartIn (now chart) count) (now covers) × SpanFits (z .words) (z .symbols) (c .left) (c .from) (c .to) ⌝ }
-    ensures { λ r. ⌜ Advanced (z .words) (z .symbols) (z .room) (c .left) (c .from) (c .to) (z .base) (byRuleOver (wordIs (take (z .words) (now (words .entry)))) (chartIn (now (chart .entry)) (z .base)) (c .left) (c .from) (c .to - c .from) p (packedRule (getD (now (rules .entry)) p 0))) (now (chart .entry)) (now (marks .entry)) count (now (chart .exit)) (now (marks .exit)) (now (covers .exit)) r ⌝ }
+    requires { ⌜ Working (z .words) (z .symbols) (z .room) (c .left) (c .from) (c .to) (now chart) (now marks) count
+        × (z .base ≤ count) × Indexed (z .words) (z .symbols) (chartIn (now chart) (z .base)) (now index)
+        × CardGiven (now card) table (z .symbols) × (c .from < c .to) × (c .to ≤ z .words) × (p < productionCount (now card))
+        × Splits (grammarOf (now card)) (chartIn (now chart) (z .base)) (c .from) (c .to) (now both) splits
+        × Covering (z .words) (z .symbols) (c .left) (c .from) (c .to)
+        (chartIn (now chart) (z .base)) (chartIn (now chart) count) (now covers)
+        × SpanFits (z .words) (z .symbols) (c .left) (c .from) (c .to) ⌝ }
+    ensures { λ r. ⌜ Advanced (z .words) (z .symbols) (z .room) (c .left) (c .from) (c .to) (z .base)
+        (byRuleOver (wordTest (now (places .entry))) (chartIn (now (chart .entry)) (z .base))
+        (c .left) (c .from) (c .to - c .from) p (production (now (card .entry)) p))
+        (now (chart .entry)) (now (marks .entry)) count (now (chart .exit)) (now (marks .exit)) (now (covers .exit)) r ⌝ }
 {
     let from = wide(c.from);
     let to = wide(c.to);
     if to - from == 1 {
-        let rule = crate::rules::rule_at(rules, p);
-        let w = words[from];
-        return at_word(chart, marks, z, c, p, rule, w, count);
+        let rule = Card::production(card, table, p);
+        let words = places[from];
+        return at_word(chart, marks, z, c, p, rule, words, count);
     }
     across_splits(
         chart,
@@ -159,8 +203,8 @@ fn by_rule_over(
         splits,
         z,
         c,
-        rules,
-        many,
+        card,
+        table,
         p,
         count,
     )
@@ -172,24 +216,35 @@ pub fn fill_items(
     marks: &mut [u8],
     index: &[u16],
     covers: &mut [u16],
-    both: &[u64; 25],
+    both: &[u64; BOUNDS],
     splits: u64,
     z: Sizes,
     c: Cell,
-    rules: &[u64; 64],
-    many: usize,
-    words: &[u8; 24],
+    card: &[u8],
+    table: usize,
+    places: &[u32; MOST_WORDS],
     set: u64,
     count: usize,
 ) -> usize
-    requires { ⌜ Working (z .words) (z .symbols) (z .room) (c .left) (c .from) (c .to) (now chart) (now marks) count × (z .base ≤ count) × Indexed (z .words) (z .symbols) (chartIn (now chart) (z .base)) (now index) × RulesFit (z .symbols) (now rules) × (c .from < c .to) × (c .to ≤ z .words) × (many ≤ 64) × CellSet (grammarIn (now rules) many) (wordIs (take (z .words) (now words))) (chartIn (now chart) (z .base)) (c .left) (c .from) (c .to - c .from) set × Splits (grammarIn (now rules) many) (chartIn (now chart) (z .base)) (c .from) (c .to) (now both) splits × (z .words ≤ length (now words)) × Covering (z .words) (z .symbols) (c .left) (c .from) (c .to) (chartIn (now chart) (z .base)) (chartIn (now chart) count) (now covers) × SpanFits (z .words) (z .symbols) (c .left) (c .from) (c .to) ⌝ }
-    ensures { λ r. ⌜ Advanced (z .words) (z .symbols) (z .room) (c .left) (c .from) (c .to) (z .base) (candidates (grammarIn (now (rules .entry)) many) (wordIs (take (z .words) (now (words .entry)))) (chartIn (now (chart .entry)) (z .base)) (c .left) (c .from) (c .to - c .from)) (now (chart .entry)) (now (marks .entry)) count (now (chart .exit)) (now (marks .exit)) (now (covers .exit)) r ⌝ }
+    requires { ⌜ Working (z .words) (z .symbols) (z .room) (c .left) (c .from) (c .to) (now chart) (now marks) count
+        × (z .base ≤ count) × Indexed (z .words) (z .symbols) (chartIn (now chart) (z .base)) (now index)
+        × CardGiven (now card) table (z .symbols) × (c .from < c .to) × (c .to ≤ z .words)
+        × CellSet (grammarOf (now card)) (wordTest (now places)) (chartIn (now chart) (z .base))
+        (c .left) (c .from) (c .to - c .from) set
+        × Splits (grammarOf (now card)) (chartIn (now chart) (z .base)) (c .from) (c .to) (now both) splits
+        × Covering (z .words) (z .symbols) (c .left) (c .from) (c .to)
+        (chartIn (now chart) (z .base)) (chartIn (now chart) count) (now covers)
+        × SpanFits (z .words) (z .symbols) (c .left) (c .from) (c .to) ⌝ }
+    ensures { λ r. ⌜ Advanced (z .words) (z .symbols) (z .room) (c .left) (c .from) (c .to) (z .base)
+        (candidates (grammarOf (now (card .entry))) (wordTest (now (places .entry))) (chartIn (now (chart .entry)) (z .base))
+        (c .left) (c .from) (c .to - c .from))
+        (now (chart .entry)) (now (marks .entry)) count (now (chart .exit)) (now (marks .exit)) (now (covers .exit)) r ⌝ }
 {
     let mut rest = set;
     let mut total = count;
     while rest != 0 {
-        let p = crate::bits::least(rest);
-        rest = crate::bits::without(rest, p);
+        let p = bits::least(rest);
+        rest = bits::without(rest, p);
         total = by_rule_over(
             chart,
             marks,
@@ -199,9 +254,9 @@ pub fn fill_items(
             splits,
             z,
             c,
-            rules,
-            many,
-            words,
+            card,
+            table,
+            places,
             p,
             total,
         );

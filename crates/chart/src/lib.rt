@@ -1,12 +1,11 @@
 // The chart builder (document 01, "The chart"): the derivable items of an accepted line, each once, in a lent room.
-mod bits;
 mod build;
 mod cell;
-mod rules;
 mod sets;
 mod sized;
 
-ghost use lib.ListN.{take};
+use places::MOST_WORDS;
+ghost use Rattle.places.specs.Places.{wordTest};
 ghost use Rattle.chart.specs.Built.{Buildable, BuiltRoom};
 
 // The number of items, or that they outnumber what the room holds.
@@ -15,14 +14,14 @@ pub enum Built {
     TooMany,
 }
 
-// The chart of n words under an accepted card, if the room holds it; if not, the room is cleared. What the room held before does not
-// matter. The numbers that the records have while the chart is built are cleared at its end.
-pub fn build_chart(card: &[u8], words: &[u8; 24], n: usize, chart: &mut [u8]) -> Built
-    requires { ⌜ Buildable (now card) (now words) n ⌝ }
-    ensures { λ r. ⌜ BuiltRoom (now (card .entry)) (take n (now (words .entry))) n r (now (chart .entry)) (now (chart .exit)) ⌝ }
+// The chart of a line of n words under an accepted card, if the room holds it; if not, the room is cleared. What the room held before does
+// not matter. The numbers that the records have while the chart is built are cleared at its end.
+pub fn build_chart(card: &[u8], places: &[u32; MOST_WORDS], n: usize, chart: &mut [u8]) -> Built
+    requires { ⌜ Buildable (now card) (now places) n ⌝ }
+    ensures { λ r. ⌜ BuiltRoom (now (card .entry)) (wordTest (now (places .entry))) n r (now (chart .entry)) (now (chart .exit)) ⌝ }
 {
     let holds = records::room::capacity(chart.len());
-    let count = sized::build_in(card, words, n, holds, chart);
+    let count = sized::build_in(card, places, n, holds, chart);
     if holds < count {
         records::room::clear(chart);
         return Built::TooMany;

@@ -1,35 +1,55 @@
 // Sets of productions, as 64 bits: which productions a span can serve.
+use card::Card;
 use card::Production;
+use octets::wide;
+use places::MOST_WORDS;
 use records::index::Range;
 use records::record::Cell;
-use records::record::wide;
 ghost use mathlib.Core.Path.{_≡_};
 ghost use Prim.Native.Nat.{ℕ, _≤_, _<_};
 ghost use lib.ListN.{length, replicate};
+ghost use Rattle.layout.specs.Card.{maxNonterminals, maxProductions, nonterminalCount, productionCount, grammarOf};
+ghost use Rattle.layout.specs.Line.{mostWords};
 ghost use Rattle.card.specs.Productions.{ruleFrom};
 ghost use Rattle.chart_model.specs.Build.{turned};
-ghost use Rattle.records.specs.Bits.{bitOf};
+ghost use Rattle.bits.specs.Bits.{bitOf};
 ghost use Rattle.steps.specs.Fits.{RuleFits};
-ghost use Rattle.chart.specs.Tables.{grammarIn, RulesFit, Rows, Turns};
-ghost use Rattle.chart.specs.Fill.{Classified, Joined, withBit, Met, Meets, Noted, NextLeft};
+ghost use Rattle.chart.specs.Tables.{bounds, CardGiven, Rows, Turns};
+ghost use Rattle.chart.specs.Fill.{setCount, Classified, Joined, withBit, OfWords, Met, Meets, Noted, NextLeft};
+
+// The table of sets: five for each nonterminal, of which the first is its own, and one for each word.
+const FIRST_SIDES: usize = Card::MAX_NONTERMINALS;
+
+const FIRST_DEPENDENTS: usize = 2 * Card::MAX_NONTERMINALS;
+
+const SECOND_SIDES: usize = 3 * Card::MAX_NONTERMINALS;
+
+const SECOND_DEPENDENTS: usize = 4 * Card::MAX_NONTERMINALS;
+
+const WORDS: usize = 5 * Card::MAX_NONTERMINALS;
+
+pub const SETS: usize = WORDS + Card::MAX_WORDS;
+
+// The bounds of the words of a line, at which a span starts, is split or ends.
+pub const BOUNDS: usize = MOST_WORDS + 1;
 
 // One production into the set at a place.
-fn put(by: &mut [u64; 112], at: usize, p: usize)
-    requires { ⌜ (at < 112) × (p < 64) ⌝ }
+fn put(by: &mut [u64; SETS], at: usize, p: usize)
+    requires { ⌜ (at < setCount) × (p < maxProductions) ⌝ }
     ensures { λ u. ⌜ now (by .exit) ≡ withBit (now (by .entry)) at p ⌝ }
 {
     by[at] = by[at] | (1u64 << p);
 }
 
 // One production into the sets of its nonterminals and its word.
-fn class_one(by: &mut [u64; 112], rule: Production, p: usize)
-    requires { ⌜ (length (now by) ≡ 112) × (p < 64) × RuleFits 16 (ruleFrom rule) ⌝ }
+fn class_one(by: &mut [u64; SETS], rule: Production, p: usize)
+    requires { ⌜ (length (now by) ≡ setCount) × (p < maxProductions) × RuleFits maxNonterminals (ruleFrom rule) ⌝ }
     ensures { λ u. ⌜ Joined (ruleFrom rule) p (now (by .entry)) (now (by .exit)) ⌝ }
 {
     match rule {
         Production::Word { left, word } => {
             put(by, wide(left), p);
-            put(by, 80 + wide(word) % 32, p);
+            put(by, WORDS + wide(word), p);
         }
         Production::SideFirst {
             left,
@@ -38,8 +58,8 @@ fn class_one(by: &mut [u64; 112], rule: Production, p: usize)
             dependent,
         } => {
             put(by, wide(left), p);
-            put(by, 16 + wide(side), p);
-            put(by, 64 + wide(dependent), p);
+            put(by, FIRST_SIDES + wide(side), p);
+            put(by, SECOND_DEPENDENTS + wide(dependent), p);
         }
         Production::SideLast {
             left,
@@ -48,23 +68,38 @@ fn class_one(by: &mut [u64; 112], rule: Production, p: usize)
             side,
         } => {
             put(by, wide(left), p);
-            put(by, 32 + wide(dependent), p);
-            put(by, 48 + wide(side), p);
+            put(by, FIRST_DEPENDENTS + wide(dependent), p);
+            put(by, SECOND_SIDES + wide(side), p);
         }
     }
 }
 
-// The sets of every nonterminal and word, in a table that is all 0.
-pub fn classify(rules: &[u64; 64], many: usize, by: &mut [u64; 112])
-    requires { ⌜ (many ≤ 64) × RulesFit 16 (now rules) × (now by ≡ replicate 112 0) ⌝ }
-    ensures { λ u. ⌜ Classified (grammarIn (now (rules .entry)) many) (now (by .exit)) ⌝ }
+// The sets of every nonterminal and word of a card with so many productions, in a table that is all 0.
+pub fn classify(card: &[u8], table: usize, productions: usize, by: &mut [u64; SETS])
+    requires { ⌜ CardGiven (now card) table (nonterminalCount (now card)) × (productions ≡ productionCount (now card))
+        × (now by ≡ replicate setCount 0) ⌝ }
+    ensures { λ u. ⌜ Classified (grammarOf (now (card .entry))) (now (by .exit)) ⌝ }
 {
     let mut p = 0;
-    while p < many {
-        let rule = crate::rules::rule_at(rules, p);
+    while p < productions {
+        let rule = Card::production(card, table, p);
         class_one(by, rule, p);
         p += 1;
     }
+}
+
+// The word productions for the words of a set.
+pub fn of_words(by: &[u64; SETS], words: u32) -> u64
+    ensures { λ r. ⌜ OfWords (now (by .entry)) words r ⌝ }
+{
+    let mut productions = 0u64;
+    let mut rest = words as u64;
+    while rest != 0 {
+        let w = bits::least(rest);
+        rest = bits::without(rest, w);
+        productions = productions | by[WORDS + w];
+    }
+    productions
 }
 
 // The splits of a span where something can meet, and the productions that have both elements at one of them.
@@ -74,8 +109,8 @@ pub struct Meeting {
 }
 
 // What meets over i to j, and, at each of its splits, the productions there.
-pub fn meet(sets: &[u64], n: usize, i: usize, j: usize, both: &mut [u64; 25]) -> Meeting
-    requires { ⌜ (n ≤ 24) × (i < j) × (j ≤ n) × Rows n (now sets) × (length (now both) ≡ 25) ⌝ }
+pub fn meet(sets: &[u64], n: usize, i: usize, j: usize, both: &mut [u64; BOUNDS]) -> Meeting
+    requires { ⌜ (n ≤ mostWords) × (i < j) × (j ≤ n) × Rows n (now sets) × (length (now both) ≡ bounds) ⌝ }
     ensures { λ r. ⌜ Met (now (sets .entry)) i j (now (both .exit)) (r .splits) × Meets (now (sets .entry)) i j (r .productions) ⌝ }
 {
     let rows = n * (n + 1);
@@ -83,8 +118,8 @@ pub fn meet(sets: &[u64], n: usize, i: usize, j: usize, both: &mut [u64; 25]) ->
     let mut productions = 0u64;
     let mut rest = splits;
     while rest != 0 {
-        let k = crate::bits::least(rest);
-        rest = crate::bits::without(rest, k);
+        let k = bits::least(rest);
+        rest = bits::without(rest, k);
         let first = sets[2 * records::index::span_at(n, i, k)];
         let second = sets[2 * records::index::span_at(n, k, j) + 1];
         let here = first & second;
@@ -98,17 +133,17 @@ pub fn meet(sets: &[u64], n: usize, i: usize, j: usize, both: &mut [u64; 25]) ->
 }
 
 // A cell got records: the productions that they can serve, and where its span has one, that it ends and starts there.
-pub fn note(sets: &mut [u64], by: &[u64; 112], n: usize, c: Cell, r: Range)
-    requires { ⌜ (n ≤ 24) × (c .from < c .to) × (c .to ≤ n) × (c .left < 16) × Rows n (now sets) ⌝ }
+pub fn note(sets: &mut [u64], by: &[u64; SETS], n: usize, c: Cell, r: Range)
+    requires { ⌜ (n ≤ mostWords) × (c .from < c .to) × (c .to ≤ n) × (c .left < maxNonterminals) × Rows n (now sets) ⌝ }
     ensures { λ u. ⌜ Noted n (now (by .entry)) (c .left) (c .from) (c .to) (r .bare) (now (sets .entry)) (now (sets .exit)) ⌝ }
 {
     let a = wide(c.left);
     let at = 2 * records::index::span_at(n, wide(c.from), wide(c.to));
-    let mut first = by[32 + a];
-    let mut second = by[64 + a];
+    let mut first = by[FIRST_DEPENDENTS + a];
+    let mut second = by[SECOND_DEPENDENTS + a];
     if r.bare != 0 {
-        first = first | by[16 + a];
-        second = second | by[48 + a];
+        first = first | by[FIRST_SIDES + a];
+        second = second | by[SECOND_SIDES + a];
     }
     let rows = n * (n + 1);
     let row = rows + 2 * wide(c.from);
@@ -124,8 +159,8 @@ pub fn note(sets: &mut [u64], by: &[u64; 112], n: usize, c: Cell, r: Range)
 }
 
 // The least nonterminal, from one on, that has a production in the set; or their number, where none has.
-pub fn next_left(by: &[u64; 112], set: u64, from: usize, symbols: usize) -> usize
-    requires { ⌜ (from ≤ symbols) × (symbols ≤ 16) ⌝ }
+pub fn next_left(by: &[u64; SETS], set: u64, from: usize, symbols: usize) -> usize
+    requires { ⌜ (from ≤ symbols) × (symbols ≤ maxNonterminals) ⌝ }
     ensures { λ r. ⌜ NextLeft (now (by .entry)) set from symbols r ⌝ }
 {
     let mut a = from;
@@ -150,16 +185,16 @@ pub fn turned(k: usize, back: bool, sum: usize) -> usize
 }
 
 // The turns at whose splits production p has both elements.
-pub fn turns_of(both: &[u64; 25], splits: u64, p: usize, back: bool, sum: usize) -> u64
-    requires { ⌜ (p < 64) × (sum < 64) × ((k : ℕ) → bitOf k splits ≡ 1 → (k < 25) × (k ≤ sum)) ⌝ }
+pub fn turns_of(both: &[u64; BOUNDS], splits: u64, p: usize, back: bool, sum: usize) -> u64
+    requires { ⌜ (p < maxProductions) × (sum < 64) × ((k : ℕ) → bitOf k splits ≡ 1 → (k < bounds) × (k ≤ sum)) ⌝ }
     ensures { λ r. ⌜ Turns (now (both .entry)) splits p back sum r ⌝ }
 {
     let bit = 1u64 << p;
     let mut turns = 0u64;
     let mut rest = splits;
     while rest != 0 {
-        let k = crate::bits::least(rest);
-        rest = crate::bits::without(rest, k);
+        let k = bits::least(rest);
+        rest = bits::without(rest, k);
         if both[k] & bit != 0 {
             turns = turns | (1u64 << turned(k, back, sum));
         }

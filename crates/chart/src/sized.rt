@@ -1,19 +1,38 @@
-// The tables beside the room, on the stack. Their sizes go by the words and by whether the card has at most 6 nonterminals, so that
+// The tables beside the room, on the stack. Their sizes go by the words and by whether the card has few nonterminals, so that
 // clearing them costs little where little is needed.
+use crate::sets::BOUNDS;
+use crate::sets::SETS;
 use card::Card;
+use places::MOST_WORDS;
 ghost use mathlib.Core.Path.{_≡_};
 ghost use Prim.Native.Nat.{_+_, _*_, _≤_, _<_};
-ghost use lib.ListN.{length, take, replicate};
-ghost use Rattle.grammar.specs.Input.{wordIs};
+ghost use lib.ListN.{length, replicate};
+ghost use Rattle.places.specs.Places.{wordTest};
 ghost use Rattle.layout.specs.Card.{grammarOf, nonterminalCount};
 ghost use Rattle.chart_model.specs.Build.{build};
 ghost use Rattle.chart.specs.Built.{Buildable, RoomLent, TablesLent};
 ghost use Rattle.chart.specs.Fill.{Closed};
 
+// Few nonterminals.
+const FEW: usize = 6;
+
+// The spans of 4 words, of 6, and so on.
+const SPANS_4: usize = 10;
+
+const SPANS_6: usize = 21;
+
+const SPANS_8: usize = 36;
+
+const SPANS_12: usize = 78;
+
+const SPANS_16: usize = 136;
+
+const SPANS_MOST: usize = MOST_WORDS * (MOST_WORDS + 1) / 2;
+
 // With tables that are all 0 and long enough.
 fn build_with(
     card: &[u8],
-    words: &[u8; 24],
+    places: &[u32; MOST_WORDS],
     n: usize,
     room: usize,
     chart: &mut [u8],
@@ -22,17 +41,18 @@ fn build_with(
     covers: &mut [u16],
     sets: &mut [u64],
 ) -> usize
-    requires { ⌜ Buildable (now card) (now words) n × RoomLent room (now chart) × TablesLent n (nonterminalCount (now card)) (now marks) (now index) (now sets) (now covers) ⌝ }
-    ensures { λ r. ⌜ Closed n (nonterminalCount (now (card .entry))) room (build room (grammarOf (now (card .entry))) (wordIs (take n (now (words .entry)))) (nonterminalCount (now (card .entry))) n) (now (chart .entry)) (now (chart .exit)) r ⌝ }
+    requires { ⌜ Buildable (now card) (now places) n × RoomLent room (now chart)
+        × TablesLent n (nonterminalCount (now card)) (now marks) (now index) (now sets) (now covers) ⌝ }
+    ensures { λ r. ⌜ Closed n (nonterminalCount (now (card .entry))) room
+        (build room (grammarOf (now (card .entry))) (wordTest (now (places .entry))) (nonterminalCount (now (card .entry))) n)
+        (now (chart .entry)) (now (chart .exit)) r ⌝ }
 {
-    let counts = Card::of(card);
-    let many = counts.productions;
-    let symbols = counts.nonterminals;
-    let mut rules = [0u64; 64];
-    crate::rules::decode_all(card, counts.words, many, &mut rules);
-    let mut by = [0u64; 112];
-    crate::sets::classify(&rules, many, &mut by);
-    let mut both = [0u64; 25];
+    let view = Card::of(card);
+    let symbols = view.nonterminals;
+    let table = view.production_table();
+    let mut by = [0u64; SETS];
+    crate::sets::classify(card, table, view.productions, &mut by);
+    let mut both = [0u64; BOUNDS];
     crate::build::close_all(
         chart,
         marks,
@@ -44,23 +64,31 @@ fn build_with(
         n,
         symbols,
         room,
-        &rules,
-        many,
-        words,
+        card,
+        table,
+        places,
     )
 }
 
-fn build_least(card: &[u8], words: &[u8; 24], n: usize, room: usize, chart: &mut [u8]) -> usize
-    requires { ⌜ Buildable (now card) (now words) n × RoomLent room (now chart) × (n ≤ 4) × (nonterminalCount (now card) ≤ 6) ⌝ }
-    ensures { λ r. ⌜ Closed n (nonterminalCount (now (card .entry))) room (build room (grammarOf (now (card .entry))) (wordIs (take n (now (words .entry)))) (nonterminalCount (now (card .entry))) n) (now (chart .entry)) (now (chart .exit)) r ⌝ }
+fn build_least(
+    card: &[u8],
+    places: &[u32; MOST_WORDS],
+    n: usize,
+    room: usize,
+    chart: &mut [u8],
+) -> usize
+    requires { ⌜ Buildable (now card) (now places) n × RoomLent room (now chart) × (n ≤ 4) × (nonterminalCount (now card) ≤ 6) ⌝ }
+    ensures { λ r. ⌜ Closed n (nonterminalCount (now (card .entry))) room
+        (build room (grammarOf (now (card .entry))) (wordTest (now (places .entry))) (nonterminalCount (now (card .entry))) n)
+        (now (chart .entry)) (now (chart .exit)) r ⌝ }
 {
-    let mut marks = [0u8; 61];
-    let mut index = [0u16; 180];
-    let mut covers = [0u16; 60];
-    let mut sets = [0u64; 30];
+    let mut marks = [0u8; SPANS_4 * FEW + 1];
+    let mut index = [0u16; 3 * SPANS_4 * FEW];
+    let mut covers = [0u16; SPANS_4 * FEW];
+    let mut sets = [0u64; 2 * SPANS_4 + 2 * (4 + 1)];
     build_with(
         card,
-        words,
+        places,
         n,
         room,
         chart,
@@ -71,17 +99,25 @@ fn build_least(card: &[u8], words: &[u8; 24], n: usize, room: usize, chart: &mut
     )
 }
 
-fn build_short(card: &[u8], words: &[u8; 24], n: usize, room: usize, chart: &mut [u8]) -> usize
-    requires { ⌜ Buildable (now card) (now words) n × RoomLent room (now chart) × (n ≤ 6) ⌝ }
-    ensures { λ r. ⌜ Closed n (nonterminalCount (now (card .entry))) room (build room (grammarOf (now (card .entry))) (wordIs (take n (now (words .entry)))) (nonterminalCount (now (card .entry))) n) (now (chart .entry)) (now (chart .exit)) r ⌝ }
+fn build_short(
+    card: &[u8],
+    places: &[u32; MOST_WORDS],
+    n: usize,
+    room: usize,
+    chart: &mut [u8],
+) -> usize
+    requires { ⌜ Buildable (now card) (now places) n × RoomLent room (now chart) × (n ≤ 6) ⌝ }
+    ensures { λ r. ⌜ Closed n (nonterminalCount (now (card .entry))) room
+        (build room (grammarOf (now (card .entry))) (wordTest (now (places .entry))) (nonterminalCount (now (card .entry))) n)
+        (now (chart .entry)) (now (chart .exit)) r ⌝ }
 {
-    let mut marks = [0u8; 337];
-    let mut index = [0u16; 1008];
-    let mut covers = [0u16; 336];
-    let mut sets = [0u64; 56];
+    let mut marks = [0u8; SPANS_6 * Card::MAX_NONTERMINALS + 1];
+    let mut index = [0u16; 3 * SPANS_6 * Card::MAX_NONTERMINALS];
+    let mut covers = [0u16; SPANS_6 * Card::MAX_NONTERMINALS];
+    let mut sets = [0u64; 2 * SPANS_6 + 2 * (6 + 1)];
     build_with(
         card,
-        words,
+        places,
         n,
         room,
         chart,
@@ -92,17 +128,25 @@ fn build_short(card: &[u8], words: &[u8; 24], n: usize, room: usize, chart: &mut
     )
 }
 
-fn build_eight_few(card: &[u8], words: &[u8; 24], n: usize, room: usize, chart: &mut [u8]) -> usize
-    requires { ⌜ Buildable (now card) (now words) n × RoomLent room (now chart) × (n ≤ 8) × (nonterminalCount (now card) ≤ 6) ⌝ }
-    ensures { λ r. ⌜ Closed n (nonterminalCount (now (card .entry))) room (build room (grammarOf (now (card .entry))) (wordIs (take n (now (words .entry)))) (nonterminalCount (now (card .entry))) n) (now (chart .entry)) (now (chart .exit)) r ⌝ }
+fn build_eight_few(
+    card: &[u8],
+    places: &[u32; MOST_WORDS],
+    n: usize,
+    room: usize,
+    chart: &mut [u8],
+) -> usize
+    requires { ⌜ Buildable (now card) (now places) n × RoomLent room (now chart) × (n ≤ 8) × (nonterminalCount (now card) ≤ 6) ⌝ }
+    ensures { λ r. ⌜ Closed n (nonterminalCount (now (card .entry))) room
+        (build room (grammarOf (now (card .entry))) (wordTest (now (places .entry))) (nonterminalCount (now (card .entry))) n)
+        (now (chart .entry)) (now (chart .exit)) r ⌝ }
 {
-    let mut marks = [0u8; 217];
-    let mut index = [0u16; 648];
-    let mut covers = [0u16; 216];
-    let mut sets = [0u64; 90];
+    let mut marks = [0u8; SPANS_8 * FEW + 1];
+    let mut index = [0u16; 3 * SPANS_8 * FEW];
+    let mut covers = [0u16; SPANS_8 * FEW];
+    let mut sets = [0u64; 2 * SPANS_8 + 2 * (8 + 1)];
     build_with(
         card,
-        words,
+        places,
         n,
         room,
         chart,
@@ -113,17 +157,25 @@ fn build_eight_few(card: &[u8], words: &[u8; 24], n: usize, room: usize, chart: 
     )
 }
 
-fn build_middle_few(card: &[u8], words: &[u8; 24], n: usize, room: usize, chart: &mut [u8]) -> usize
-    requires { ⌜ Buildable (now card) (now words) n × RoomLent room (now chart) × (n ≤ 12) × (nonterminalCount (now card) ≤ 6) ⌝ }
-    ensures { λ r. ⌜ Closed n (nonterminalCount (now (card .entry))) room (build room (grammarOf (now (card .entry))) (wordIs (take n (now (words .entry)))) (nonterminalCount (now (card .entry))) n) (now (chart .entry)) (now (chart .exit)) r ⌝ }
+fn build_middle_few(
+    card: &[u8],
+    places: &[u32; MOST_WORDS],
+    n: usize,
+    room: usize,
+    chart: &mut [u8],
+) -> usize
+    requires { ⌜ Buildable (now card) (now places) n × RoomLent room (now chart) × (n ≤ 12) × (nonterminalCount (now card) ≤ 6) ⌝ }
+    ensures { λ r. ⌜ Closed n (nonterminalCount (now (card .entry))) room
+        (build room (grammarOf (now (card .entry))) (wordTest (now (places .entry))) (nonterminalCount (now (card .entry))) n)
+        (now (chart .entry)) (now (chart .exit)) r ⌝ }
 {
-    let mut marks = [0u8; 469];
-    let mut index = [0u16; 1404];
-    let mut covers = [0u16; 468];
-    let mut sets = [0u64; 182];
+    let mut marks = [0u8; SPANS_12 * FEW + 1];
+    let mut index = [0u16; 3 * SPANS_12 * FEW];
+    let mut covers = [0u16; SPANS_12 * FEW];
+    let mut sets = [0u64; 2 * SPANS_12 + 2 * (12 + 1)];
     build_with(
         card,
-        words,
+        places,
         n,
         room,
         chart,
@@ -134,17 +186,25 @@ fn build_middle_few(card: &[u8], words: &[u8; 24], n: usize, room: usize, chart:
     )
 }
 
-fn build_middle(card: &[u8], words: &[u8; 24], n: usize, room: usize, chart: &mut [u8]) -> usize
-    requires { ⌜ Buildable (now card) (now words) n × RoomLent room (now chart) × (n ≤ 12) ⌝ }
-    ensures { λ r. ⌜ Closed n (nonterminalCount (now (card .entry))) room (build room (grammarOf (now (card .entry))) (wordIs (take n (now (words .entry)))) (nonterminalCount (now (card .entry))) n) (now (chart .entry)) (now (chart .exit)) r ⌝ }
+fn build_middle(
+    card: &[u8],
+    places: &[u32; MOST_WORDS],
+    n: usize,
+    room: usize,
+    chart: &mut [u8],
+) -> usize
+    requires { ⌜ Buildable (now card) (now places) n × RoomLent room (now chart) × (n ≤ 12) ⌝ }
+    ensures { λ r. ⌜ Closed n (nonterminalCount (now (card .entry))) room
+        (build room (grammarOf (now (card .entry))) (wordTest (now (places .entry))) (nonterminalCount (now (card .entry))) n)
+        (now (chart .entry)) (now (chart .exit)) r ⌝ }
 {
-    let mut marks = [0u8; 1249];
-    let mut index = [0u16; 3744];
-    let mut covers = [0u16; 1248];
-    let mut sets = [0u64; 182];
+    let mut marks = [0u8; SPANS_12 * Card::MAX_NONTERMINALS + 1];
+    let mut index = [0u16; 3 * SPANS_12 * Card::MAX_NONTERMINALS];
+    let mut covers = [0u16; SPANS_12 * Card::MAX_NONTERMINALS];
+    let mut sets = [0u64; 2 * SPANS_12 + 2 * (12 + 1)];
     build_with(
         card,
-        words,
+        places,
         n,
         room,
         chart,
@@ -157,21 +217,23 @@ fn build_middle(card: &[u8], words: &[u8; 24], n: usize, room: usize, chart: &mu
 
 fn build_sixteen_few(
     card: &[u8],
-    words: &[u8; 24],
+    places: &[u32; MOST_WORDS],
     n: usize,
     room: usize,
     chart: &mut [u8],
 ) -> usize
-    requires { ⌜ Buildable (now card) (now words) n × RoomLent room (now chart) × (n ≤ 16) × (nonterminalCount (now card) ≤ 6) ⌝ }
-    ensures { λ r. ⌜ Closed n (nonterminalCount (now (card .entry))) room (build room (grammarOf (now (card .entry))) (wordIs (take n (now (words .entry)))) (nonterminalCount (now (card .entry))) n) (now (chart .entry)) (now (chart .exit)) r ⌝ }
+    requires { ⌜ Buildable (now card) (now places) n × RoomLent room (now chart) × (n ≤ 16) × (nonterminalCount (now card) ≤ 6) ⌝ }
+    ensures { λ r. ⌜ Closed n (nonterminalCount (now (card .entry))) room
+        (build room (grammarOf (now (card .entry))) (wordTest (now (places .entry))) (nonterminalCount (now (card .entry))) n)
+        (now (chart .entry)) (now (chart .exit)) r ⌝ }
 {
-    let mut marks = [0u8; 817];
-    let mut index = [0u16; 2448];
-    let mut covers = [0u16; 816];
-    let mut sets = [0u64; 306];
+    let mut marks = [0u8; SPANS_16 * FEW + 1];
+    let mut index = [0u16; 3 * SPANS_16 * FEW];
+    let mut covers = [0u16; SPANS_16 * FEW];
+    let mut sets = [0u64; 2 * SPANS_16 + 2 * (16 + 1)];
     build_with(
         card,
-        words,
+        places,
         n,
         room,
         chart,
@@ -182,17 +244,25 @@ fn build_sixteen_few(
     )
 }
 
-fn build_long_few(card: &[u8], words: &[u8; 24], n: usize, room: usize, chart: &mut [u8]) -> usize
-    requires { ⌜ Buildable (now card) (now words) n × RoomLent room (now chart) × (nonterminalCount (now card) ≤ 6) ⌝ }
-    ensures { λ r. ⌜ Closed n (nonterminalCount (now (card .entry))) room (build room (grammarOf (now (card .entry))) (wordIs (take n (now (words .entry)))) (nonterminalCount (now (card .entry))) n) (now (chart .entry)) (now (chart .exit)) r ⌝ }
+fn build_long_few(
+    card: &[u8],
+    places: &[u32; MOST_WORDS],
+    n: usize,
+    room: usize,
+    chart: &mut [u8],
+) -> usize
+    requires { ⌜ Buildable (now card) (now places) n × RoomLent room (now chart) × (nonterminalCount (now card) ≤ 6) ⌝ }
+    ensures { λ r. ⌜ Closed n (nonterminalCount (now (card .entry))) room
+        (build room (grammarOf (now (card .entry))) (wordTest (now (places .entry))) (nonterminalCount (now (card .entry))) n)
+        (now (chart .entry)) (now (chart .exit)) r ⌝ }
 {
-    let mut marks = [0u8; 1801];
-    let mut index = [0u16; 5400];
-    let mut covers = [0u16; 1800];
-    let mut sets = [0u64; 650];
+    let mut marks = [0u8; SPANS_MOST * FEW + 1];
+    let mut index = [0u16; 3 * SPANS_MOST * FEW];
+    let mut covers = [0u16; SPANS_MOST * FEW];
+    let mut sets = [0u64; 2 * SPANS_MOST + 2 * (MOST_WORDS + 1)];
     build_with(
         card,
-        words,
+        places,
         n,
         room,
         chart,
@@ -203,17 +273,25 @@ fn build_long_few(card: &[u8], words: &[u8; 24], n: usize, room: usize, chart: &
     )
 }
 
-fn build_long(card: &[u8], words: &[u8; 24], n: usize, room: usize, chart: &mut [u8]) -> usize
-    requires { ⌜ Buildable (now card) (now words) n × RoomLent room (now chart) ⌝ }
-    ensures { λ r. ⌜ Closed n (nonterminalCount (now (card .entry))) room (build room (grammarOf (now (card .entry))) (wordIs (take n (now (words .entry)))) (nonterminalCount (now (card .entry))) n) (now (chart .entry)) (now (chart .exit)) r ⌝ }
+fn build_long(
+    card: &[u8],
+    places: &[u32; MOST_WORDS],
+    n: usize,
+    room: usize,
+    chart: &mut [u8],
+) -> usize
+    requires { ⌜ Buildable (now card) (now places) n × RoomLent room (now chart) ⌝ }
+    ensures { λ r. ⌜ Closed n (nonterminalCount (now (card .entry))) room
+        (build room (grammarOf (now (card .entry))) (wordTest (now (places .entry))) (nonterminalCount (now (card .entry))) n)
+        (now (chart .entry)) (now (chart .exit)) r ⌝ }
 {
-    let mut marks = [0u8; 4801];
-    let mut index = [0u16; 14400];
-    let mut covers = [0u16; 4800];
-    let mut sets = [0u64; 650];
+    let mut marks = [0u8; SPANS_MOST * Card::MAX_NONTERMINALS + 1];
+    let mut index = [0u16; 3 * SPANS_MOST * Card::MAX_NONTERMINALS];
+    let mut covers = [0u16; SPANS_MOST * Card::MAX_NONTERMINALS];
+    let mut sets = [0u64; 2 * SPANS_MOST + 2 * (MOST_WORDS + 1)];
     build_with(
         card,
-        words,
+        places,
         n,
         room,
         chart,
@@ -224,37 +302,45 @@ fn build_long(card: &[u8], words: &[u8; 24], n: usize, room: usize, chart: &mut 
     )
 }
 
-pub fn build_in(card: &[u8], words: &[u8; 24], n: usize, room: usize, chart: &mut [u8]) -> usize
-    requires { ⌜ Buildable (now card) (now words) n × RoomLent room (now chart) ⌝ }
-    ensures { λ r. ⌜ Closed n (nonterminalCount (now (card .entry))) room (build room (grammarOf (now (card .entry))) (wordIs (take n (now (words .entry)))) (nonterminalCount (now (card .entry))) n) (now (chart .entry)) (now (chart .exit)) r ⌝ }
+pub fn build_in(
+    card: &[u8],
+    places: &[u32; MOST_WORDS],
+    n: usize,
+    room: usize,
+    chart: &mut [u8],
+) -> usize
+    requires { ⌜ Buildable (now card) (now places) n × RoomLent room (now chart) ⌝ }
+    ensures { λ r. ⌜ Closed n (nonterminalCount (now (card .entry))) room
+        (build room (grammarOf (now (card .entry))) (wordTest (now (places .entry))) (nonterminalCount (now (card .entry))) n)
+        (now (chart .entry)) (now (chart .exit)) r ⌝ }
 {
     let symbols = Card::of(card).nonterminals;
     if n <= 4 {
-        if symbols <= 6 {
-            return build_least(card, words, n, room, chart);
+        if symbols <= FEW {
+            return build_least(card, places, n, room, chart);
         }
     }
     if n <= 8 {
-        if symbols <= 6 {
-            return build_eight_few(card, words, n, room, chart);
+        if symbols <= FEW {
+            return build_eight_few(card, places, n, room, chart);
         }
     }
     if n <= 6 {
-        return build_short(card, words, n, room, chart);
+        return build_short(card, places, n, room, chart);
     }
     if n <= 12 {
-        if symbols <= 6 {
-            return build_middle_few(card, words, n, room, chart);
+        if symbols <= FEW {
+            return build_middle_few(card, places, n, room, chart);
         }
-        return build_middle(card, words, n, room, chart);
+        return build_middle(card, places, n, room, chart);
     }
     if n <= 16 {
-        if symbols <= 6 {
-            return build_sixteen_few(card, words, n, room, chart);
+        if symbols <= FEW {
+            return build_sixteen_few(card, places, n, room, chart);
         }
     }
-    if symbols <= 6 {
-        return build_long_few(card, words, n, room, chart);
+    if symbols <= FEW {
+        return build_long_few(card, places, n, room, chart);
     }
-    build_long(card, words, n, room, chart)
+    build_long(card, places, n, room, chart)
 }

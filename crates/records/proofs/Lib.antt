@@ -1,4 +1,3 @@
-pub mod BitLaws
 pub mod TableLaws
 pub mod RoomLaws
 pub mod MarkLaws

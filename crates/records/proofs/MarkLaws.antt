@@ -15,9 +15,9 @@ use Rattle.grammar.specs.Items.{Foot}
 use Rattle.grammar.specs.ItemList.{sameFoot}
 use Rattle.grammar.proofs.ItemTests.{foot-true, foot-self}
 use Rattle.chart_model.proofs.FillModel.{not-so}
-use Rattle.records.specs.Bits.{holdsBit}
+use Rattle.bits.specs.Bits.{holdsBit}
 use Rattle.records.specs.Room.{FootFits, footNumber, markAt, MarkAdded}
-use Rattle.records.proofs.BitLaws.{test-bit, holdsBit-more}
+use Rattle.bits.proofs.BitLaws.{test-bit, holdsBit-more}
 use Rattle.records.proofs.TableLaws.{number-same}
 
 -- The test on feet is equality, so it may be made on their numbers.

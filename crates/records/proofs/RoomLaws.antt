@@ -17,10 +17,10 @@ use Rattle.grammar.specs.Chart.{Record, recorded}
 use Rattle.grammar.specs.Lists.{concatMap}
 use Rattle.grammar.proofs.ListLaws.{length-concatMap}
 use Rattle.grammar.proofs.StandsLaws.{none-some, some-same}
-use Rattle.layout.specs.Bytes.{byteAt, wordAt, counted, lowByte, highByte}
+use Rattle.layout.specs.Bytes.{byteAt, number16At, counted, lowByte, highByte}
 use Rattle.layout.specs.Records.{recordBytes, chartBytes}
 use Rattle.chart_model.specs.Build.{footIn, footAt}
-use Rattle.records.specs.Room.{footOf, footThere, recordAt, chartIn, FootFits, footFields, Writable, footNumber, numbered, numberedChart, numberThere}
+use Rattle.records.specs.Room.{asFoot, footThere, recordAt, chartIn, FootFits, footFields, Writable, footNumber, numbered, numberedChart, numberThere}
 
 -- A function over places that are counted: how many, one more, at one place, and by another function that agrees there.
 pub length-counted : (k n : ℕ) → length (counted k n) ≡ n
@@ -79,7 +79,7 @@ foot-kept old new n m h e =
 pub record-kept : (old new : List ℕ) (n m : ℕ) → m < n → take (16 * n) new ≡ take (16 * n) old → recordAt new m ≡ recordAt old m
 record-kept old new n m h e =
     let at : (k : ℕ) → k < 16 * n → byteAt new k ≡ byteAt old k = λ k l. byte-kept old new (16 * n) k l e in
-    let word : (k : ℕ) → k + 1 < 16 * n → wordAt new k ≡ wordAt old k = λ k l. rw (at k (omega arith), at (k + 1) l) in
+    let word : (k : ℕ) → k + 1 < 16 * n → number16At new k ≡ number16At old k = λ k l. rw (at k (omega arith), at (k + 1) l) in
     cc (
       at (16 * m) (omega arith),
       at (16 * m + 2) (omega arith),
@@ -135,13 +135,13 @@ pub word-halves : (x : ℕ) → lowByte x + 256 * highByte x ≡ x
 word-halves x = omega arith
 
 pub read-word : (bytes : List ℕ) (at k v : ℕ) → byteAt bytes (at + k) ≡ lowByte v → byteAt bytes (at + (k + 1)) ≡ highByte v
-    → wordAt bytes (at + k) ≡ v
+    → number16At bytes (at + k) ≡ v
 read-word bytes at k v low high = rw (low, add-assoc, high) (word-halves v)
 
 read-back : (bytes : List ℕ) (n A γ i j B q t p x y z : ℕ) (rest : List ℕ)
     → ((k : ℕ) → byteAt bytes (16 * n + k)
     ≡ byteAt (A ∷ γ ∷ i ∷ j ∷ B ∷ q ∷ t ∷ p ∷ lowByte x ∷ highByte x ∷ lowByte y ∷ highByte y ∷ lowByte z ∷ highByte z ∷ rest) k)
-    → recordAt bytes n ≡ recorded (item A i j (footOf γ B q t)) p x y z
+    → recordAt bytes n ≡ recorded (item A i j (asFoot γ B q t)) p x y z
 read-back bytes n A γ i j B q t p x y z rest h =
     let first : byteAt bytes (16 * n) ≡ A = ap (byteAt bytes) (sym (add-zero (16 * n))) ∙ h 0 in
     let word = read-word bytes (16 * n) in

@@ -1,4 +1,3 @@
-pub mod Bits
 pub mod Index
 pub mod Room
 pub mod Cover

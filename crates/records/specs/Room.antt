@@ -10,13 +10,15 @@ use Rattle.grammar.specs.Lists.{concatMap}
 use Rattle.grammar.specs.Items.{Foot, bare, foot}
 use Rattle.grammar.specs.ItemList.{item, among}
 use Rattle.grammar.specs.Chart.{Record, recorded, itemOf}
-use Rattle.layout.specs.Bytes.{byteAt, wordAt, lowByte, highByte}
-pub use Rattle.layout.specs.Records.{recordBytes, chartBytes, footOf, footThere, recordAt, chartIn}
+use Rattle.layout.specs.Bytes.{byteAt, number16At, lowByte, highByte}
+use Rattle.layout.specs.Card.{maxNonterminals, maxIndices}
+use Rattle.layout.specs.Line.{mostWords}
+pub use Rattle.layout.specs.Records.{recordBytes, chartBytes, asFoot, footThere, recordAt, chartIn}
 use Rattle.chart_model.specs.Build.{footAt, addEach}
 use Rattle.records.specs.declared.record.Cell.{Cell}
 use Rattle.records.specs.declared.record.Foot as declared
 use Rattle.records.specs.declared.record.Origin.{Origin}
-use Rattle.records.specs.Bits.{holdsBit}
+use Rattle.bits.specs.Bits.{holdsBit}
 use Rattle.records.specs.Index.{spans, cellAt}
 
 -- The same as the model has it: a count above the room says that an item did not fit.
@@ -25,7 +27,7 @@ stateOf room bytes count = cond (leb count room) (some (chartIn bytes count)) no
 
 -- What the code's structs stand for.
 abbrev pub footFrom : declared.Foot → Foot
-footFrom f = footOf (f .index) (f .symbol) (f .from) (f .to)
+footFrom f = asFoot (f .index) (f .symbol) (f .from) (f .to)
 
 abbrev pub recordFrom : Cell → declared.Foot → Origin → Record
 recordFrom c f o =
@@ -43,7 +45,7 @@ Writable f = f .index ≡ 0 → (f .symbol ≡ 255) × (f .from ≡ 0) × (f .to
 -- Feet whose parts lie within n words and N nonterminals.
 abbrev pub FootFits : ℕ → ℕ → Foot → Type 0
 FootFits n N bare = Unit {0}
-FootFits n N (foot γ B p q) = (1 ≤ γ) × (γ ≤ 8) × (B < N) × (p < q) × (q ≤ n)
+FootFits n N (foot γ B p q) = (1 ≤ γ) × (γ ≤ maxIndices) × (B < N) × (p < q) × (q ≤ n)
 
 abbrev pub FeetFit : ℕ → ℕ → List Record → Type 0
 FeetFit n N c = (m : ℕ) → m < length c → FootFits n N (footAt c m)
@@ -65,7 +67,7 @@ abbrev pub numberedChart : ℕ → ℕ → List Record → List ℕ
 numberedChart n N c = concatMap (numbered n N) c
 
 abbrev pub numberThere : List ℕ → ℕ → ℕ
-numberThere bytes m = wordAt bytes (16 * m + 14)
+numberThere bytes m = number16At bytes (16 * m + 14)
 
 -- The bytes with zeros in place of the numbers of the first so many records.
 abbrev pub numbersCleared : ℕ → List ℕ → List ℕ
@@ -90,8 +92,8 @@ Marked n N A i j c marks = (φ : Foot) → FootFits n N φ → markOf n N marks 
 
 -- A cell is being filled: the room, its count and the marks agree.
 pub record Working (n N room A i j : ℕ) (chart marks : List ℕ) (count : ℕ) : Type 0 where
-  pub wordsFit : n ≤ 24
-  pub symbolsFit : N ≤ 16
+  pub wordsFit : n ≤ mostWords
+  pub symbolsFit : N ≤ maxNonterminals
   pub roomSmall : room ≤ 65535
   pub roomThere : 16 * room ≤ length chart
   pub marksThere : spans n * N < length marks

@@ -1,5 +1,5 @@
 // Which cell covers which: for each cell 0, or one more than the number of a cell that has every foot of it.
-use crate::index::wide16;
+use octets::wide16;
 ghost use mathlib.Core.Path.{_≡_};
 ghost use Prim.Native.Nat.{_+_, _≤_, _<_};
 ghost use lib.ListN.{length, getD, set};

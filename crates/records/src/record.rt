@@ -31,18 +31,15 @@ pub struct Origin {
 
 pub const NOWHERE: u16 = 65535;
 
-pub fn wide(b: u8) -> usize
-    ensures { λ r. ⌜ (r ≡ b) × (r < 256) ⌝ }
-{
-    b as usize
-}
+// The bytes of a record.
+pub const RECORD: usize = 16;
 
 // The foot of the record at position m.
 pub fn foot_at(chart: &[u8], m: usize) -> Foot
     requires { ⌜ 16 * m + 16 ≤ length (now chart) ⌝ }
     ensures { λ r. ⌜ r ≡ footFields (now (chart .entry)) m ⌝ }
 {
-    let at = 16 * m;
+    let at = RECORD * m;
     Foot {
         index: chart[at + 1],
         symbol: chart[at + 4],
@@ -56,8 +53,7 @@ pub fn number_at(chart: &[u8], m: usize) -> usize
     requires { ⌜ 16 * m + 16 ≤ length (now chart) ⌝ }
     ensures { λ r. ⌜ r ≡ numberThere (now (chart .entry)) m ⌝ }
 {
-    let at = 16 * m;
-    wide(chart[at + 14]) + 256 * wide(chart[at + 15])
+    octets::read16(chart, RECORD * m + 14)
 }
 
 fn low(x: u16) -> u8
@@ -73,12 +69,12 @@ fn high(x: u16) -> u8
 }
 
 // All the bytes of src into the room at a place.
-fn put_all(room: &mut [u8], at: usize, src: &[u8; 16])
+fn put_all(room: &mut [u8], at: usize, src: &[u8; RECORD])
     requires { ⌜ (at + 16 ≤ length (now room)) × (length (now src) ≡ 16) ⌝ }
     ensures { λ r. ⌜ now (room .exit) ≡ take at (now (room .entry)) ++ (now (src .entry) ++ drop (at + 16) (now (room .entry))) ⌝ }
 {
     let mut k = 0;
-    while k < 16 {
+    while k < RECORD {
         room[at + k] = src[k];
         k += 1;
     }
@@ -106,5 +102,5 @@ pub fn put_record(chart: &mut [u8], m: usize, c: Cell, f: Foot, number: u16, o: 
         low(number),
         high(number),
     ];
-    put_all(chart, 16 * m, &bytes);
+    put_all(chart, RECORD * m, &bytes);
 }

@@ -1,4 +1,5 @@
 // The lent room: how many records it holds, clearing it, and clearing the numbers of feet once the chart is built.
+use crate::record::RECORD;
 ghost use mathlib.Core.Path.{_≡_};
 ghost use Prim.Native.Nat.{_*_, _≤_};
 ghost use lib.ListN.{length, replicate};
@@ -9,7 +10,7 @@ ghost use Rattle.records.specs.Room.{numbersCleared};
 pub fn capacity(bytes: usize) -> usize
     ensures { λ r. ⌜ r ≡ itemsIn bytes ⌝ }
 {
-    let whole = bytes / 16;
+    let whole = bytes / RECORD;
     if 65535 < whole {
         return 65535;
     }
@@ -34,8 +35,8 @@ pub fn clear_numbers(chart: &mut [u8], count: usize)
 {
     let mut m = 0;
     while m < count {
-        chart[16 * m + 14] = 0;
-        chart[16 * m + 15] = 0;
+        chart[RECORD * m + 14] = 0;
+        chart[RECORD * m + 15] = 0;
         m += 1;
     }
 }

@@ -21,7 +21,7 @@ use Rattle.chart_model.specs.Build.{flatUp, places, barePlaces, footAt, takenFr
 use Rattle.records.specs.declared.record.Cell.{Cell}
 use Rattle.records.specs.declared.record.Foot as declared
 use Rattle.records.specs.declared.index.Range.{Range}
-use Rattle.records.specs.Room.{footOf, footThere, footFields, chartIn, FootFits, Writable, footNumber, numberThere, Working, Added}
+use Rattle.records.specs.Room.{asFoot, footThere, footFields, chartIn, FootFits, Writable, footNumber, numberThere, Working, Added}
 use Rattle.records.specs.Index.{cellAt, rangeIn, bareIn, SpanFits, Indexed}
 use Rattle.records.specs.Cover.{CellRange}
 use Rattle.records.proofs.RoomLaws.{chart-length, foot-at, number-there}
@@ -75,23 +75,23 @@ module _ {n N : ℕ} (chart : List ℕ) (base : ℕ) {index : List ℕ} (t : Ind
       (t .bares B p q (s .0) (s .1) (s .2))
 
 -- A foot with an index has parts that fit, and the eighth part of its number is the place of its cell.
-foot-known : (γ B p q : ℕ) → 1 ≤ γ → footOf γ B p q ≡ foot γ B p q
+foot-known : (γ B p q : ℕ) → 1 ≤ γ → asFoot γ B p q ≡ foot γ B p q
 foot-known γ B p q h = rw (ne-eqb γ 0 (λ z. absurd (omega arith)))
 
 module _ (n N γ B p q : ℕ) (h : 1 ≤ γ) where
-  foot-span : FootFits n N (footOf γ B p q) → SpanFits n N B p q
+  foot-span : FootFits n N (asFoot γ B p q) → SpanFits n N B p q
   foot-span f = let (a, b, c, d, e) = subst (FootFits n N) (foot-known γ B p q h) f in (c, d, e)
 
-  pub foot-made : γ ≤ 8 → SpanFits n N B p q → FootFits n N (footOf γ B p q)
+  pub foot-made : γ ≤ 8 → SpanFits n N B p q → FootFits n N (asFoot γ B p q)
   foot-made l s = subst (FootFits n N) (sym (foot-known γ B p q h)) (h, l, s .0, s .1, s .2)
 
-  foot-cell : FootFits n N (footOf γ B p q) → footNumber n N (footOf γ B p q) / 8 ≡ cellAt N B p q
+  foot-cell : FootFits n N (asFoot γ B p q) → footNumber n N (asFoot γ B p q) / 8 ≡ cellAt N B p q
   foot-cell f =
       ap (λ (φ : Foot). footNumber n N φ / 8) (foot-known γ B p q h)
       ∙ number-cell n N γ B p q (subst (FootFits n N) (foot-known γ B p q h) f)
 
   -- As a take makes it: the number from the cell's place, and the foot may be written as it is.
-  pub foot-numbered : {at g k : ℕ} → at ≡ cellAt N B p q → g ≡ γ → k ≡ 8 * at + g - 1 → k ≡ footNumber n N (footOf γ B p q)
+  pub foot-numbered : {at g k : ℕ} → at ≡ cellAt N B p q → g ≡ γ → k ≡ 8 * at + g - 1 → k ≡ footNumber n N (asFoot γ B p q)
   foot-numbered {k = k} e d s = subst (λ (φ : Foot). k ≡ footNumber n N φ) (sym (foot-known γ B p q h)) (omega arith)
 
 pub with-index : (f : declared.Foot) → 1 ≤ f .index → Writable f
@@ -99,7 +99,7 @@ with-index f h e = absurd (omega arith)
 
 -- A give of g from a record with the foot φ: only if the foot's index is g, and then from the records of the foot's cell.
 module _ (b : List Record) (A i j p x y g : ℕ) where
-  given-other : (γ B q r : ℕ) → (γ ≡ g → ⊥) → givenFoot b A i j p x y g (footOf γ B q r) ≡ []
+  given-other : (γ B q r : ℕ) → (γ ≡ g → ⊥) → givenFoot b A i j p x y g (asFoot γ B q r) ≡ []
   given-other γ B q r d = go (eqb γ 0)
     where
       go : (t : Bool) → givenFoot b A i j p x y g (cond t bare (foot γ B q r)) ≡ []
@@ -107,7 +107,7 @@ module _ (b : List Record) (A i j p x y g : ℕ) where
       go false = rw (ne-eqb γ g d, givenFoot)
 
   given-same : (γ B q r from to : ℕ) → γ ≡ g → 1 ≤ g → places b B q r ≡ counted from (to - from)
-      → flatUp (continued b A i j p x y) from (to - from) ≡ givenFoot b A i j p x y g (footOf γ B q r)
+      → flatUp (continued b A i j p x y) from (to - from) ≡ givenFoot b A i j p x y g (asFoot γ B q r)
   given-same γ B q r from to d h l =
       rw (ne-eqb γ 0 (λ z. absurd (omega arith)), eq-eqb γ g d, givenFoot)
       (sym (ap (concatMap (continued b A i j p x y)) l ∙ concatMap-counted (continued b A i j p x y) from (to - from)))
@@ -160,7 +160,7 @@ module _ (b : List Record) (D k m A i j p x : ℕ) where
 
   module _ (R : Range) (t : places b D k m ≡ counted (R .from) (R .to - R .from)) where
     pub by-take : {a : Action} {g : ℕ} → a ≡ Take g → 1 ≤ g
-        → takenFrom A i j p x (footOf g D k m) (counted (R .from) (R .to - R .from)) ≡ byAction b (actionFrom a) D k m A i j p x
+        → takenFrom A i j p x (asFoot g D k m) (counted (R .from) (R .to - R .from)) ≡ byAction b (actionFrom a) D k m A i j p x
     by-take {g = g} e h = rw (ne-eqb g 0 (λ z. absurd (omega arith))) (sym (ap (takenFrom A i j p x (foot g D k m)) t) ∙ same-action e)
 
     pub by-keep : {a : Action} → a ≡ Keep

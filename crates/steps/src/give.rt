@@ -3,6 +3,7 @@ use crate::hand::Side;
 use records::add::Sizes;
 use records::record::Cell;
 use records::record::Origin;
+use records::record::RECORD;
 ghost use Prim.Native.Nat.{_-_, _≤_, _<_};
 ghost use Rattle.chart_model.specs.Build.{flatUp, continued, givenFrom};
 ghost use Rattle.records.specs.Room.{chartIn, Working, Added};
@@ -90,7 +91,7 @@ fn give_one(
     requires { ⌜ Working (z .words) (z .symbols) (z .room) (c .left) (c .from) (c .to) (now chart) (now marks) count × (y < z .base) × (z .base ≤ count) × (1 ≤ g) × Indexed (z .words) (z .symbols) (chartIn (now chart) (z .base)) (now index) × Covering (z .words) (z .symbols) (c .left) (c .from) (c .to) (chartIn (now chart) (z .base)) (chartIn (now chart) count) (now covers) × SpanFits (z .words) (z .symbols) (c .left) (c .from) (c .to) ⌝ }
     ensures { λ r. ⌜ Advanced (z .words) (z .symbols) (z .room) (c .left) (c .from) (c .to) (z .base) (givenFrom (chartIn (now (chart .entry)) (z .base)) (c .left) (c .from) (c .to) (s .production) (s .position) g y) (now (chart .entry)) (now (marks .entry)) count (now (chart .exit)) (now (marks .exit)) (now (covers .exit)) r ⌝ }
 {
-    let given = chart[16 * y + 1];
+    let given = chart[RECORD * y + 1];
     if given != g {
         return count;
     }

@@ -2,12 +2,12 @@
 use Prim.Native.Nat.{ℕ, _-_}
 use native.Mathlib.Omega.{arith}
 use mathlib.Core.Path.{sym, subst}
-use lib.ListN.{take}
 use borrow.Author.Needs.{needs}
-use Rattle.grammar.specs.Input.{wordIs}
+use Rattle.layout.specs.Card.{grammarOf}
+use Rattle.places.specs.Places.{wordTest}
 use Rattle.chart_model.specs.Build.{candidates}
 use Rattle.records.specs.Index.{Indexed}
-use Rattle.chart.specs.Tables.{grammarIn, Splits, CellSet}
+use Rattle.chart.specs.Tables.{Splits, CellSet}
 use Rattle.records.specs.Room.{chartIn}
 use Rattle.records.specs.Cover.{Covering, Advanced}
 use Rattle.records.proofs.CoverLaws.{start-covering}
@@ -18,22 +18,20 @@ use Rattle.chart.proofs.build.fill_cell.Tie as tie
 
 fill-items-requires : tie.Need-fill-items-requires
 fill-items-requires c κs =
-    let s = c .before .before .before .before .before .before .before .before .before in
+    let s = c .before .before .before .before .before .before .before .before .before .before in
     let a = s .args in
     let p = s .pre in
     let b = p .0 in
-    let g = grammarIn (a .rules .now) (a .many) in (
-      fresh-working (a .c .left) (a .c .from) (a .c .to) b (p .8),
+    let g = grammarOf (a .card .now) in (
+      fresh-working (a .c .left) (a .c .from) (a .c .to) b (p .7),
       omega (arith, p .1),
       subst (λ (k : ℕ). Indexed (a .z .words) (a .z .symbols) (chartIn (a .chart .now) k) (a .index .now)) (sym (p .1)) (b .indexed),
       p .2,
       p .5,
       p .6,
-      p .7,
-      subst (λ (k : ℕ). CellSet g (wordIs (take (a .z .words) (a .words .now))) (chartIn (a .chart .now) k) (a .c .left) (a .c .from)
-          (a .c .to - a .c .from) (a .set)) (sym (p .1)) (p .9),
-      subst (λ (k : ℕ). Splits g (chartIn (a .chart .now) k) (a .c .from) (a .c .to) (a .both .now) (a .splits)) (sym (p .1)) (p .11),
-      p .10,
+      subst (λ (k : ℕ). CellSet g (wordTest (a .places .now)) (chartIn (a .chart .now) k) (a .c .left) (a .c .from)
+          (a .c .to - a .c .from) (a .set)) (sym (p .1)) (p .8),
+      subst (λ (k : ℕ). Splits g (chartIn (a .chart .now) k) (a .c .from) (a .c .to) (a .both .now) (a .splits)) (sym (p .1)) (p .9),
       subst (λ (k : ℕ). Covering (a .z .words) (a .z .symbols) (a .c .left) (a .c .from) (a .c .to) (chartIn (a .chart .now) k)
           (chartIn (a .chart .now) (a .count)) (a .covers .now)) (sym (p .1)) (start-covering (a .c .left) (a .c .from) (a .c .to) (b .covered)),
       (p .4, p .5, p .6),
@@ -41,17 +39,17 @@ fill-items-requires c κs =
 
 -- What they are of the chart as it was.
 items : (c : tie.After-fill-items)
-    → let a = c .before .before .before .before .before .before .before .before .before .before .args in
+    → let a = c .before .before .before .before .before .before .before .before .before .before .before .args in
     Advanced (a .z .words) (a .z .symbols) (a .z .room) (a .c .left) (a .c .from) (a .c .to) (a .count)
-    (candidates (grammarIn (a .rules .now) (a .many)) (wordIs (take (a .z .words) (a .words .now))) (chartIn (a .chart .now) (a .count))
+    (candidates (grammarOf (a .card .now)) (wordTest (a .places .now)) (chartIn (a .chart .now) (a .count))
     (a .c .left) (a .c .from) (a .c .to - a .c .from)) (a .chart .now) (a .marks .now) (a .count) (c .fill-items .last .0)
     (c .fill-items .last .1 .0) (c .fill-items .last .1 .1 .1 .0) (c .fill-items .result)
 items c =
-    let s = c .before .before .before .before .before .before .before .before .before .before in
+    let s = c .before .before .before .before .before .before .before .before .before .before .before in
     let a = s .args in
     subst
     (λ (k : ℕ). Advanced (a .z .words) (a .z .symbols) (a .z .room) (a .c .left) (a .c .from) (a .c .to) k
-    (candidates (grammarIn (a .rules .now) (a .many)) (wordIs (take (a .z .words) (a .words .now))) (chartIn (a .chart .now) k)
+    (candidates (grammarOf (a .card .now)) (wordTest (a .places .now)) (chartIn (a .chart .now) k)
     (a .c .left) (a .c .from) (a .c .to - a .c .from)) (a .chart .now) (a .marks .now) (a .count) (c .fill-items .last .0)
     (c .fill-items .last .1 .0) (c .fill-items .last .1 .1 .1 .0) (c .fill-items .result))
     (s .pre .1) (c .fill-items .ensures)
@@ -85,14 +83,23 @@ same-length-8 c = search needs
 
 returns-2 : tie.Need-returns-2
 returns-2 c =
-    let s = c .before .before .before .before .before .before .before .before .before .before .before .before .before .before .before .before .before .before .before in
+    let s = c .before .before .before .before .before .before .before .before .before .before .before .before .before .before .before .before
+    .before .before .before .before in
     let a = s .args in
-    same-filled (a .c .left) (a .c .from) (a .c .to) (s .pre .0) (s .pre .4, s .pre .5, s .pre .6) (s .pre .8) (items (c .before .before .before .before .before .before .before .before .before)) (c .if2 .taken)
+    same-filled (a .c .left) (a .c .from) (a .c .to) (s .pre .0) (s .pre .4, s .pre .5, s .pre .6) (s .pre .7) (items (c .before .before
+    .before .before .before .before .before .before .before)) (c .if2 .taken)
 
 finish-requires : tie.Need-finish-requires
 finish-requires c κs =
-    let a = items (c .before .before .before .before .before .before .before .before .before .before .before) .added in
-    (a .works (c .before .before .before .if1 .left), omega (arith, a .grown, c .before .before .before .before .before .before .before .before .before .before .before .before .before .before .before .before .before .before .before .before .before .pre .1))
+    let a = items (c .before .before .before .before .before .before .before .before .before .before .before) .added in (
+      a .works (c .before .before .before .if1 .left),
+      omega (
+        arith,
+        a .grown,
+        c .before .before .before .before .before .before .before
+            .before .before .before .before .before .before .before .before .before .before .before .before .before .before .before .pre .1,
+      ),
+    )
 
 wide-requires : tie.Need-wide-requires
 wide-requires c κs = search needs
@@ -105,7 +112,8 @@ wide-requires-3 c κs = search needs
 
 cell-at-requires : tie.Need-cell-at-requires
 cell-at-requires c κs =
-    let p = c .before .before .before .before .before .before .before .before .before .before .before .before .before .before .before .before .before .before .before .before .before .before .before .before .before .before .before .pre in (
+    let p = c .before .before .before .before .before .before .before .before .before .before .before .before .before .before .before .before
+    .before .before .before .before .before .before .before .before .before .before .before .before .pre in (
       p .0 .wordsFit,
       p .0 .symbolsFit,
       omega (arith, p .4, c .before .before .wide .ensures .0),
@@ -115,14 +123,19 @@ cell-at-requires c κs =
 
 put-range-requires : tie.Need-put-range-requires
 put-range-requires c κs =
-    let p = c .before .before .before .before .before .before .before .before .before .before .before .before .before .before .before .before .before .before .before .before .before .before .before .before .before .before .before .before .before .pre in
-    let a = items (c .before .before .before .before .before .before .before .before .before .before .before .before .before .before .before .before .before .before .before) .added in
-    let r = range-small (c .before .before .before .before .before .before .before .finish .ensures) (omega (arith, a .grown, p .1)) (omega (arith, c .before .before .before .before .before .before .before .before .before .before .before .if1 .left, p .0 .roomSmall)) in
+    let p = c .before .before .before .before .before .before .before .before .before .before .before .before .before .before .before .before
+    .before .before .before .before .before .before .before .before .before .before .before .before .before .before .pre in
+    let a = items (c .before .before .before .before .before .before .before .before .before .before .before .before .before .before .before
+    .before .before .before .before) .added in
+    let r = range-small (c .before .before .before .before .before .before .before .finish .ensures) (omega (arith, a .grown, p .1)) (omega
+    (arith, c .before .before .before .before .before .before .before .before .before .before .before .if1 .left, p .0 .roomSmall)) in
     (omega (arith, c .before .cell-at .ensures .1, p .0 .indexed .long), r .0, r .1, r .2)
 
 note-requires : tie.Need-note-requires
 note-requires c κs =
-    let p = c .before .before .before .before .before .before .before .before .before .before .before .before .before .before .before .before .before .before .before .before .before .before .before .before .before .before .before .before .before .before .before .before .before .pre in
+    let p = c .before .before .before .before .before .before .before .before .before .before .before .before .before .before .before .before
+    .before .before .before .before .before .before .before .before .before .before .before .before .before .before .before .before
+    .before .before .pre in
     (p .0 .wordsFit, p .5, p .6, omega (arith, p .4, p .0 .symbolsFit), p .0 .sorted .rows)
 
 same-length-9 : tie.Need-same-length-9
@@ -142,17 +155,33 @@ same-length-13 c = search needs
 
 returns-3 : tie.Need-returns-3
 returns-3 c =
-    let s = c .before .before .before .before .before .before .before .before .before .before .before .before .before .before .before .before .before .before .before .before .before .before .before .before .before .before .before .before .before .before .before .before .before .before .before .before in
+    let s = c .before .before .before .before .before .before .before .before .before .before .before .before .before .before .before .before
+    .before .before .before .before .before .before .before .before .before .before .before .before .before .before .before .before
+    .before .before .before .before .before in
     let a = s .args in
     let p = s .pre in
-    let e = items (c .before .before .before .before .before .before .before .before .before .before .before .before .before .before .before .before .before .before .before .before .before .before .before .before .before .before) in
-    let fits = c .before .before .before .before .before .before .before .before .before .before .before .before .before .before .before .before .before .before .if1 .left in
-    cell-filled (a .c .left) (a .c .from) (a .c .to) (c .before .before .before .before .before .before .before .before .cell-at .result) (p .0) (p .3) (p .4) (p .5) (p .6) (p .8) e
-    (cell-state (a .chart .now) (c .before .before .before .before .before .before .before .before .before .before .before .before .before .before .before .before .before .before .before .before .before .before .before .before .before .before .fill-items .last .0) (a .count) (c .before .before .before .before .before .before .before .before .before .before .before .before .before .before .before .before .before .before .before .before .before .before .before .before .before .before .fill-items .result) (a .z .room)
-    (grammarIn (a .rules .now) (a .many)) (wordIs (take (a .z .words) (a .words .now))) (a .c .left) (a .c .from) (a .c .to) (e .added .model) fits
+    let e = items (c .before .before .before .before .before .before .before .before .before .before .before .before .before .before .before
+    .before .before .before .before .before .before .before .before .before .before .before) in
+    let fits = c .before .before .before .before .before .before .before .before .before .before .before .before .before .before .before
+    .before .before .before .if1 .left in
+    cell-filled (a .c .left) (a .c .from) (a .c .to) (c .before .before .before .before .before .before .before .before .cell-at .result) (p .0)
+    (p .3) (p .4) (p .5) (p .6) (p .7) e
+    (cell-state (a .chart .now) (c .before .before .before .before .before .before .before .before .before .before .before .before .before
+    .before .before .before .before .before .before .before .before .before .before .before .before .before .fill-items .last .0) (a .count)
+    (c .before .before .before .before .before .before .before .before .before .before .before .before .before .before .before .before
+    .before .before .before .before .before .before .before .before .before .before .fill-items .result) (a .z .room)
+    (grammarOf (a .card .now)) (wordTest (a .places .now)) (a .c .left) (a .c .from) (a .c .to) (e .added .model) fits
     (p .5)) fits (p .1) (c .before .before .before .before .before .before .before .before .before .before .before .before .before .before .finish .ensures)
-    (cell-place (a .z .words) (a .z .symbols) (c .before .before .before .before .before .before .before .before .cell-at .ensures .0) (c .before .before .before .before .before .before .before .before .before .before .before .wide .ensures .0) (c .before .before .before .before .before .before .before .before .before .before .wide2 .ensures .0)
-    (c .before .before .before .before .before .before .before .before .before .wide3 .ensures .0)) (omega (arith, c .before .before .before .before .before .before .before .before .cell-at .ensures .1, p .0 .indexed .long)) (c .before .before .before .before .before .before .put-range .ensures)
+    (cell-place (a .z .words) (a .z .symbols) (c .before .before .before .before .before .before .before .before .cell-at .ensures .0)
+    (c .before .before .before .before .before .before .before .before .before .before .before .wide .ensures .0) (c .before .before
+    .before .before .before .before .before .before .before .before .wide2 .ensures .0)
+    (c .before .before .before .before .before .before .before .before .before .wide3 .ensures .0)) (omega (
+      arith,
+      c .before .before .before
+          .before .before .before .before .before .cell-at .ensures .1,
+      p .0 .indexed .long,
+    )) (c .before .before .before .before .before
+    .before .put-range .ensures)
     (c .before .before .note .ensures)
 
 pub fill-cell-spec : {M : Type 1} → statement M

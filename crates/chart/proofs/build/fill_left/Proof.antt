@@ -6,18 +6,18 @@ use Rattle.chart.proofs.build.fill_left.Statement.{statement}
 use Rattle.chart.proofs.build.fill_left.Tie as tie
 
 cast-t22 : tie.Need-cast-t22
-cast-t22 c = omega (arith, c .before .before .before .before .before .pre)
+cast-t22 c = omega (arith, c .before .before .before .before .before .before .pre)
 
 cast-t23 : tie.Need-cast-t23
-cast-t23 c = omega (arith, c .before .before .before .before .before .pre)
+cast-t23 c = omega (arith, c .before .before .before .before .before .before .pre)
 
 cast-t24 : tie.Need-cast-t24
-cast-t24 c = omega (arith, c .before .before .before .before .before .pre)
+cast-t24 c = omega (arith, c .before .before .before .before .before .before .pre)
 
 fill-cell-requires : tie.Need-fill-cell-requires
 fill-cell-requires c κs =
-    let p = c .before .before .before .before .before .before .before .before .before .before .pre in
-    (p .0, refl, p .1, p .2, p .3, p .4, p .5, p .6, p .7, p .8, p .9, p .10)
+    let p = c .before .before .before .before .before .before .before .before .before .before .before .pre in
+    (p .0, refl, p .1, p .2, p .3, p .4, p .5, p .6, p .7, p .8)
 
 same-length : tie.Need-same-length
 same-length c = search needs

@@ -22,16 +22,34 @@ add-number : tie.Need-add-number
 add-number c = search needs
 
 mul-number : tie.Need-mul-number
-mul-number c = let s = c .before .before .before .before .before .before in omega (arith, bare-small (s .args .z .words) (s .args .z .symbols) (s .pre .0 .wordsFit) (s .pre .0 .symbolsFit) .0)
+mul-number c = let s = c .before .before .before .before .before .before in omega (
+  arith,
+  bare-small (s .args .z .words) (s .args .z .symbols)
+      (s .pre .0 .wordsFit) (s .pre .0 .symbolsFit) .0,
+)
 
 mul-number-2 : tie.Need-mul-number-2
-mul-number-2 c = let s = c .before .before .before .before .before .before .before in omega (arith, bare-small (s .args .z .words) (s .args .z .symbols) (s .pre .0 .wordsFit) (s .pre .0 .symbolsFit) .1)
+mul-number-2 c = let s = c .before .before .before .before .before .before .before in omega (
+  arith,
+  bare-small (s .args .z .words)
+      (s .args .z .symbols) (s .pre .0 .wordsFit) (s .pre .0 .symbolsFit) .1,
+)
 
 mul-number-3 : tie.Need-mul-number-3
-mul-number-3 c = let s = c .before .before .before .before .before .before .before in omega (arith, bare-small (s .args .z .words) (s .args .z .symbols) (s .pre .0 .wordsFit) (s .pre .0 .symbolsFit) .1)
+mul-number-3 c = let s = c .before .before .before .before .before .before .before in omega (
+  arith,
+  bare-small (s .args .z .words)
+      (s .args .z .symbols) (s .pre .0 .wordsFit) (s .pre .0 .symbolsFit) .1,
+)
 
 add-requires : tie.Need-add-requires
-add-requires c κs = let s = c .before .before .before .before .before .before .before .before .before in (s .pre .0, tt, (λ e. (refl, refl, refl)), bare-number (s .args .z .words) (s .args .z .symbols))
+add-requires c κs = let s = c .before .before .before .before .before .before .before .before .before in (
+  s .pre .0,
+  tt,
+  (λ e.
+      (refl, refl, refl)),
+  bare-number (s .args .z .words) (s .args .z .symbols),
+)
 
 same-length : tie.Need-same-length
 same-length c = search needs
@@ -46,7 +64,7 @@ returns c =
     let s = test .before .before .before .before in
     let a = s .args in
     added-as
-    (word-one (a .w) (a .c .left) (a .c .from) (a .p) (ruleFrom (a .rule)) (a .c .to) (s .pre .1)
+    (word-one (a .words) (a .c .left) (a .c .from) (a .p) (ruleFrom (a .rule)) (a .c .to) (s .pre .1)
     (sym (test .before .is-word .ensures) ∙ test .if1 .taken))
     (call .add .ensures)
 
@@ -54,7 +72,7 @@ returns-2 : tie.Need-returns-2
 returns-2 c =
     let s = c .before .before .before .before in
     let a = s .args in
-    added-as (word-none (a .w) (a .c .left) (a .c .from) (a .p) (ruleFrom (a .rule)) (sym (c .before .is-word .ensures) ∙ c .if1 .left))
+    added-as (word-none (a .words) (a .c .left) (a .c .from) (a .p) (ruleFrom (a .rule)) (sym (c .before .is-word .ensures) ∙ c .if1 .left))
     (added-none (s .pre .0))
 
 pub at-word-spec : {M : Type 1} → statement M

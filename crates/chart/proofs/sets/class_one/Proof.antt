@@ -1,4 +1,4 @@
--- `sets::class_one` meets its contract: each arm's places are below 112, and the stores of an arm are those of the law for its kind of rule.
+-- `sets::class_one` meets its contract: each arm's places lie in the table, and the stores of an arm are those of the law for its kind of rule.
 use native.Mathlib.Omega.{arith}
 use borrow.Author.Needs.{needs}
 use Rattle.chart.proofs.SetLaws.{word-fits, first-fits, last-fits, word-joined, first-joined, last-joined}
@@ -24,7 +24,10 @@ add-put : tie.Need-add-put
 add-put c = search needs
 
 put-requires-2 : tie.Need-put-requires-2
-put-requires-2 c κs = search needs
+put-requires-2 c κs =
+    let r = c .before .before .before .before .before .before in
+    let s = r .before .before in
+    (omega (arith, word-fits (r .rule .given .1) (s .pre .2), c .wide2 .ensures), s .pre .1)
 
 enum-known-rule-2 : tie.Need-enum-known-rule-2
 enum-known-rule-2 c = search needs

@@ -4,7 +4,7 @@ use mathlib.Core.Path.{ap}
 use borrow.Author.Needs.{needs}
 use lib.Bits.{bitOr}
 use lib.ListN.{getD, set}
-use Rattle.records.proofs.BitLaws.{one-shifted}
+use Rattle.bits.proofs.BitLaws.{one-shifted}
 use Rattle.chart.proofs.sets.put.Statement.{statement}
 use Rattle.chart.proofs.sets.put.Tie as tie
 

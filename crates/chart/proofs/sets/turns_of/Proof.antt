@@ -5,7 +5,7 @@ use native.Mathlib.Omega.{arith}
 use mathlib.Core.Path.{refl, sym, _∙_, ap}
 use lib.Bits.{bitAnd, bitOr}
 use lib.ListN.{getD}
-use Rattle.records.proofs.BitLaws.{one-shifted, bit-set, bit-clear}
+use Rattle.bits.proofs.BitLaws.{one-shifted, bit-set, bit-clear}
 use Rattle.chart_model.specs.Build.{turned}
 use Rattle.chart.proofs.CellLaws.{TurnsSoFar, turns-none, turns-more, turns-same, turns-end, turned-small}
 use Rattle.chart.proofs.sets.turns_of.Statement.{statement}

@@ -1,7 +1,7 @@
 -- `sized::build_middle` meets its contract: its tables are zeros, and long enough for 12 words and 16 nonterminals.
 use lib.Dec.{lit<, lit≤}
 use Rattle.layout.specs.Card.{nonterminalCount}
-use Rattle.chart.proofs.CardFits.{counts-fit}
+use Rattle.layout.proofs.Accepting.{accepted-counts}
 use Rattle.chart.proofs.BuiltExact.{tables-lent}
 use borrow.Author.Needs.{needs}
 use Rattle.chart.proofs.sized.build_middle.Statement.{statement}
@@ -27,7 +27,8 @@ build-with-requires c κs =
     let s = c .before .before .before .before .before .before .before in (
       s .pre .0,
       s .pre .1,
-      tables-lent (s .args .n) (nonterminalCount (s .args .card .now)) 12 16 1249 3744 182 1248 (s .pre .2) (counts-fit (s .args .card .now) (s .pre .0 .accepted) .symbols .1)
+      tables-lent (s .args .n) (nonterminalCount (s .args .card .now)) 12 16 1249 3744 182 1248 (s .pre .2) (accepted-counts (s .args .card .now)
+          (s .pre .0 .accepted) .fewNonterminals)
           (lit< tt) (lit≤ tt) (lit≤ tt) (lit≤ tt),
     )
 

@@ -23,7 +23,7 @@ wide16-requires c κs = search needs
 returns : tie.Need-returns
 returns c =
     let a = c .before .before .before .before .args in
-    let e = reaches-none (a .covers .now) (a .own) (sym (c .before .wide16 .ensures) ∙ c .if1 .taken) in
+    let e = reaches-none (a .covers .now) (a .own) (sym (c .before .wide16 .ensures .0) ∙ c .if1 .taken) in
     (sym e, left-as-is (a .covers .now) (a .own) (a .at) e)
 
 add-if2 : tie.Need-add-if2
@@ -32,7 +32,7 @@ add-if2 c = search needs
 returns-2 : tie.Need-returns-2
 returns-2 c =
     let a = c .before .before .before .before .before .args in
-    let d = sym (c .before .before .wide16 .ensures) ∙ c .if2 .taken in
+    let d = sym (c .before .before .wide16 .ensures .0) ∙ c .if2 .taken in
     let e = reaches-here (a .covers .now) (a .own) d in
     (sym e, noted-already (a .covers .now) (a .own) (a .at) e d)
 
@@ -57,13 +57,13 @@ looked : (c : tie.After-wide162) → let a = c .before .before .before .before .
 looked c =
     let w = c .before .before .before .before in
     let a = w .before .before .before .args in
-    ap (reaches (a .covers .now) (a .own)) (sym (w .wide16 .ensures))
+    ap (reaches (a .covers .now) (a .own)) (sym (w .wide16 .ensures .0))
     ∙ sym (reaches-there (a .covers .now) (a .own) (w .wide16 .result) (c .before .before .before .if1 .left) (c .before .before .if2 .left))
 
 returns-3 : tie.Need-returns-3
 returns-3 c =
     let a = c .before .before .before .before .before .before .before .before .args in
-    let e = looked (c .before) ∙ ne-eqb _ _ (λ d. c .if3 .taken (c .before .wide162 .ensures ∙ d)) in
+    let e = looked (c .before) ∙ ne-eqb _ _ (λ d. c .if3 .taken (c .before .wide162 .ensures .0 ∙ d)) in
     (sym e, left-as-is (a .covers .now) (a .own) (a .at) e)
 
 note-requires : tie.Need-note-requires
@@ -76,7 +76,7 @@ returns-4 : tie.Need-returns-4
 returns-4 c =
     let w = c .before .before .before .before .before in
     let a = w .before .before .before .before .before .before .before .args in
-    let e = looked w ∙ eq-eqb _ _ (sym (w .wide162 .ensures) ∙ c .before .before .before .before .if3 .left) in
+    let e = looked w ∙ eq-eqb _ _ (sym (w .wide162 .ensures .0) ∙ c .before .before .before .before .if3 .left) in
     (sym e, c .before .before .note .ensures ∙ noted-now (a .covers .now) (a .own) (a .at) e)
 
 pub is-covered-spec : {M : Type 1} → statement M

@@ -47,7 +47,7 @@ wide16-requires-3 : tie.Need-wide16-requires-3
 wide16-requires-3 c κs = search needs
 
 returns : tie.Need-returns
-returns c = same-range (c .before .before .before .before .wide16 .ensures) (c .before .before .wide162 .ensures) (c .wide163 .ensures)
+returns c = same-range (c .before .before .before .before .wide16 .ensures .0) (c .before .before .wide162 .ensures .0) (c .wide163 .ensures .0)
 
 pub range-of-spec : {M : Type 1} → statement M
 range-of-spec =

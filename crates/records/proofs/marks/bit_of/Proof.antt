@@ -1,7 +1,7 @@
 -- `marks::bit_of` meets its contract: `1 << b` is 2 ^ b, since b is below 8.
 use Prim.Native.Nat.{_%_}
 use native.Mathlib.Omega.{arith}
-use Rattle.records.proofs.BitLaws.{one-shifted}
+use Rattle.bits.proofs.BitLaws.{one-shifted}
 use borrow.Author.Needs.{needs}
 use Rattle.records.proofs.marks.bit_of.Statement.{statement}
 use Rattle.records.proofs.marks.bit_of.Tie as tie

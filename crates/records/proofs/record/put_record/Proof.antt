@@ -9,7 +9,7 @@ use borrow.Author.Tests.{eq-eqb, ne-eqb}
 use Rattle.grammar.specs.ItemList.{item}
 use Rattle.grammar.specs.Chart.{recorded}
 use Rattle.layout.specs.Bytes.{lowByte, highByte}
-use Rattle.records.specs.Room.{footOf, withNumber}
+use Rattle.records.specs.Room.{asFoot, withNumber}
 use borrow.Author.Needs.{needs}
 use Rattle.records.proofs.record.put_record.Statement.{statement}
 use Rattle.records.proofs.record.put_record.Tie as tie
@@ -18,7 +18,7 @@ as-bytes : (A γ i j B p q d x y z k : ℕ) {l h l′ h′ l″ h″ l‴ h‴ :
     → l ≡ lowByte x → h ≡ highByte x → l′ ≡ lowByte y → h′ ≡ highByte y → l″ ≡ lowByte z → h″ ≡ highByte z
     → l‴ ≡ lowByte k → h‴ ≡ highByte k
     → A ∷ γ ∷ i ∷ j ∷ B ∷ p ∷ q ∷ d ∷ l ∷ h ∷ l′ ∷ h′ ∷ l″ ∷ h″ ∷ l‴ ∷ h‴ ∷ []
-    ≡ withNumber k (recorded (item A i j (footOf γ B p q)) d x y z)
+    ≡ withNumber k (recorded (item A i j (asFoot γ B p q)) d x y z)
 as-bytes A γ i j B p q d x y z k w a₁ a₂ a₃ a₄ a₅ a₆ a₇ a₈ = elim (ℕ-discrete γ 0) [
   | yes e ↦ rw (eq-eqb γ 0 e) (cc (w e .0, w e .1, w e .2))
   | no n ↦ rw (ne-eqb γ 0 n) (cc)

@@ -9,9 +9,8 @@ use mathlib.Core.Logic.{_⊎_, inl, inr}
 use lib.Bits.{bitAnd, bitOr}
 use lib.Count.{trailingZeros}
 use lib.Pow.{pow-pos}
-use Rattle.records.specs.Bits.{bitOf}
-use Rattle.records.proofs.BitLaws.{bitOf-below, bitOf-zero, bitOf-or, bitOf-and}
-use Rattle.chart.specs.Tables.{Least, Without}
+use Rattle.bits.specs.Bits.{bitOf, Least, Without}
+use Rattle.bits.proofs.BitLaws.{bitOf-below, bitOf-zero, bitOf-or, bitOf-and}
 
 -- The lowest bit of a number that is not 0: it is there, no bit is below it, and it is within the width.
 abbrev Lowest : ℕ → ℕ → ℕ → Type 0

@@ -1,12 +1,12 @@
--- `bits::without` meets its contract: `1 << k` is 2 ^ k, which the set has.
+-- `without` meets its contract: `1 << k` is 2 ^ k, which the set has.
 use Prim.Native.Nat.{ℕ, _-_}
 use native.Mathlib.Omega.{arith}
 use mathlib.Core.Path.{ap}
 use borrow.Author.Needs.{needs}
-use Rattle.records.proofs.BitLaws.{one-shifted}
-use Rattle.chart.proofs.BitSets.{bit-size, without-there}
-use Rattle.chart.proofs.bits.without.Statement.{statement}
-use Rattle.chart.proofs.bits.without.Tie as tie
+use Rattle.bits.proofs.BitLaws.{one-shifted}
+use Rattle.bits.proofs.BitSets.{bit-size, without-there}
+use Rattle.bits.proofs.without.Statement.{statement}
+use Rattle.bits.proofs.without.Tie as tie
 
 shl-result : tie.Need-shl-result
 shl-result c = search needs

@@ -1,8 +1,8 @@
--- `bits::least` meets its contract: the zeros below the lowest bit are as many as its number.
+-- `least` meets its contract: the zeros below the lowest bit are as many as its number.
 use native.Mathlib.Omega.{arith}
-use Rattle.chart.proofs.BitSets.{least-there}
-use Rattle.chart.proofs.bits.least.Statement.{statement}
-use Rattle.chart.proofs.bits.least.Tie as tie
+use Rattle.bits.proofs.BitSets.{least-there}
+use Rattle.bits.proofs.least.Statement.{statement}
+use Rattle.bits.proofs.least.Tie as tie
 
 cast-result : tie.Need-cast-result
 cast-result c = omega (arith, least-there (c .args .set) (c .fits .set .fits) (c .pre) .small)
