@@ -80,7 +80,7 @@ kind-fits card few (suc (suc (suc (suc (suc (suc (suc k))))))) A B C g e =
     let kind = suc (suc (suc (suc (suc (suc (suc k)))))) in
     absurd (omega (arith, leb-true kind 6 (both (leb kind 6) _ e .0)))
 
-production-fits : (card : List ℕ) (m : ℕ) → cardNumber card ≡ 0 → m < productionCount card
+pub production-fits : (card : List ℕ) (m : ℕ) → cardNumber card ≡ 0 → m < productionCount card
     → RuleFits (nonterminalCount card) (production card m)
 production-fits card m e h =
     let at = productionAt card m in
