@@ -27,6 +27,7 @@ use Rattle.records.specs.Cover.{CellRange}
 use Rattle.records.proofs.RoomLaws.{chart-length, foot-at, number-there}
 use Rattle.records.proofs.TableLaws.{number-cell}
 use Rattle.steps.specs.declared.element.Element.{Element}
+use Rattle.steps.specs.declared.element.Elements.{Elements}
 use Rattle.steps.specs.Fits.{ActionFits, RuleFits}
 use Rattle.steps.proofs.StepLaws.{concatMap-counted, added-none, added-as, foot-fits}
 
@@ -42,8 +43,7 @@ module _ (A i j p x : ℕ) (φ : Foot) (from to : ℕ) where
       let e : to - from ≡ suc (to - from - 1) = omega arith in
       ap (λ (m : ℕ). takenFrom A i j p x φ (counted from m)) e
 
--- The table read at a cell, at a place that was computed from bytes w₁ to w₃: the positions of the cell's records and of its bare
--- item, none of them past the base.
+-- The table read at a cell: the positions of the cell's records and of its bare item, none of them past the base.
 module _ {n N : ℕ} (chart : List ℕ) (base : ℕ) {index : List ℕ} (t : Indexed n N (chartIn chart base) index) (at : ℕ) {R : Range}
     (r : R ≡ rangeIn index at) where
   pub to-below : R .to ≤ base
@@ -52,14 +52,10 @@ module _ {n N : ℕ} (chart : List ℕ) (base : ℕ) {index : List ℕ} (t : Ind
   pub bare-below : R .bare ≤ base
   bare-below = subst (λ (R : Range). R .bare ≤ base) (sym r) (omega (arith, t .within (3 * at + 2), chart-length chart base))
 
-module _ {n N : ℕ} (chart : List ℕ) (base : ℕ) {index : List ℕ} (t : Indexed n N (chartIn chart base) index) {B p q w₁ w₂ w₃ : ℕ}
-    (s : SpanFits n N B p q) (e₁ : w₁ ≡ B) (e₂ : w₂ ≡ p) (e₃ : w₃ ≡ q) {at : ℕ} (e : at ≡ cellAt N w₁ w₂ w₃) {R : Range}
-    (r : R ≡ rangeIn index at) where
-  pub read-at : at ≡ cellAt N B p q
-  read-at = cc
-
+module _ {n N : ℕ} (chart : List ℕ) (base : ℕ) {index : List ℕ} (t : Indexed n N (chartIn chart base) index) {B p q : ℕ}
+    (s : SpanFits n N B p q) {at : ℕ} (e : at ≡ cellAt N B p q) {R : Range} (r : R ≡ rangeIn index at) where
   read-range : R ≡ rangeIn index (cellAt N B p q)
-  read-range = r ∙ ap (rangeIn index) read-at
+  read-range = r ∙ ap (rangeIn index) e
 
   pub range-places : places (chartIn chart base) B p q ≡ counted (R .from) (R .to - R .from)
   range-places =
@@ -67,7 +63,7 @@ module _ {n N : ℕ} (chart : List ℕ) (base : ℕ) {index : List ℕ} (t : Ind
       (t .ranges B p q (s .0) (s .1) (s .2))
 
   abbrev pub cell-range : CellRange n N (chartIn chart base) at (R .from) (R .to)
-  cell-range = record { symbol = B; start = p; end = q; fits = s; number = read-at; stands = range-places }
+  cell-range = record { symbol = B; start = p; end = q; fits = s; number = e; stands = range-places }
 
   pub range-bares : barePlaces (chartIn chart base) B p q ≡ bareIn (R .bare)
   range-bares =
@@ -181,19 +177,19 @@ module _ (f : ℕ → List Record) {l : List ℕ} (m : ℕ) (t : l ≡ bareIn m)
       let e : m ≡ suc (m - 1) = omega arith in
       ap (concatMap f) (t ∙ ap bareIn e) ∙ append-nil (f (m - 1))
 
--- A production by its shape: no record from a word or under another left side, and else those of its side x and its dependent y, of which
--- one stands before k and one after it. Where the production fits, its action and its nonterminals do.
+-- A production by its shape: no record from a word or under another left side, and else those of the two elements that meet at k: the
+-- side before k and the dependent after it, or the other way round. Where the production fits, they do.
 abbrev Over : Element → ℕ → ℕ → ℕ → Type 0
 Over x symbol from to = (x .symbol ≡ symbol) × (x .from ≡ from) × (x .to ≡ to)
 
 module _ (b : List Record) (c : Cell) (k p : ℕ) where
-  abbrev made : Production → List Record
+  abbrev pub made : Production → List Record
   made rule = byRule b (c .left) (c .from) k (c .to) p (ruleFrom rule)
 
-  abbrev paired : Action → Element → Element → List Record
-  paired a x y =
-      concatMap (byAction b (actionFrom a) (y .symbol) (y .from) (y .to) (c .left) (c .from) (c .to) p)
-      (barePlaces b (x .symbol) (x .from) (x .to))
+  abbrev pub byElements : Elements → List Record
+  byElements m =
+      concatMap (byAction b (actionFrom (m .action)) (m .dependent .symbol) (m .dependent .from) (m .dependent .to) (c .left) (c .from) (c .to) p)
+      (barePlaces b (m .side .symbol) (m .side .from) (m .side .to))
 
   pub by-word : {rule : Production} {left word : ℕ} → rule ≡ Word left word → [] ≡ made rule
   by-word e = ap made (sym e)
@@ -205,18 +201,28 @@ module _ (b : List Record) (c : Cell) (k p : ℕ) where
     pub last-other : rule ≡ SideLast left a D side → (left ≡ c .left → ⊥) → [] ≡ made rule
     last-other e d = rw (e, ne-eqb left (c .left) d, byRule)
 
-    module _ {x y : Element} where
+    module _ {x y : Element} {m : Elements} (met : m ≡ record { side = x; action = a; dependent = y }) where
       pub first-same : rule ≡ SideFirst left a side D → left ≡ c .left → Over x side (c .from) k → Over y D k (c .to)
-          → paired a x y ≡ made rule
-      first-same e d (s, t, u) (v, w, z) = rw (e, eq-eqb left (c .left) d, byRule, s, t, u, v, w, z)
+          → byElements m ≡ made rule
+      first-same e d (s, t, u) (v, w, z) = rw (met, e, eq-eqb left (c .left) d, byRule, s, t, u, v, w, z)
 
-      pub last-same : rule ≡ SideLast left a D side → left ≡ c .left → Over y D (c .from) k → Over x side k (c .to)
-          → paired a x y ≡ made rule
-      last-same e d (v, w, z) (s, t, u) = rw (e, eq-eqb left (c .left) d, byRule, s, t, u, v, w, z)
+      pub last-same : rule ≡ SideLast left a D side → left ≡ c .left → Over x side k (c .to) → Over y D (c .from) k
+          → byElements m ≡ made rule
+      last-same e d (s, t, u) (v, w, z) = rw (met, e, eq-eqb left (c .left) d, byRule, s, t, u, v, w, z)
 
-module _ (N : ℕ) (rule : Production) (fits : RuleFits N (ruleFrom rule)) {left side D : ℕ} {a : Action} where
-  pub first-fits : rule ≡ SideFirst left a side D → ActionFits (actionFrom a) × (side < N) × (D < N)
-  first-fits e = let (_, f, s, d, _) = subst (λ (r : Production). RuleFits N (ruleFrom r)) e fits in (f, s .0, d)
+abbrev pub ElementsFit : ℕ → ℕ → Elements → Type 0
+ElementsFit n N m =
+    ActionFits (actionFrom (m .action)) × SpanFits n N (m .side .symbol) (m .side .from) (m .side .to)
+    × SpanFits n N (m .dependent .symbol) (m .dependent .from) (m .dependent .to)
 
-  pub last-fits : rule ≡ SideLast left a D side → ActionFits (actionFrom a) × (side < N) × (D < N)
-  last-fits e = let (_, f, _, d, s) = subst (λ (r : Production). RuleFits N (ruleFrom r)) e fits in (f, s .0, d)
+module _ (n N : ℕ) (c : Cell) (k : ℕ) (rule : Production) (fits : RuleFits N (ruleFrom rule)) (l : c .from < k) (u : k < c .to)
+    (w : c .to ≤ n) {left side D : ℕ} {a : Action} {x y : Element} {m : Elements} (met : m ≡ record { side = x; action = a; dependent = y }) where
+  pub first-fits : rule ≡ SideFirst left a side D → Over x side (c .from) k → Over y D k (c .to) → ElementsFit n N m
+  first-fits e s d =
+      let (_, f, g, h, _) = subst (λ (r : Production). RuleFits N (ruleFrom r)) e fits in
+      rw met (f, (omega arith, omega arith, omega arith), (omega arith, omega arith, omega arith))
+
+  pub last-fits : rule ≡ SideLast left a D side → Over x side k (c .to) → Over y D (c .from) k → ElementsFit n N m
+  last-fits e s d =
+      let (_, f, _, h, g) = subst (λ (r : Production). RuleFits N (ruleFrom r)) e fits in
+      rw met (f, (omega arith, omega arith, omega arith), (omega arith, omega arith, omega arith))

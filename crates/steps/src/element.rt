@@ -1,12 +1,21 @@
 // The two elements of a production that meet at a place k of a cell.
+use card::Action;
 use records::record::Cell;
+use records::record::wide;
 ghost use mathlib.Core.Path.{_≡_};
 
-// A nonterminal over a stretch: a side or a dependent.
+// A nonterminal over a stretch: a side or a dependent. Whole numbers, by which the table of cells is asked.
 pub struct Element {
-    pub symbol: u8,
-    pub from: u8,
-    pub to: u8,
+    pub symbol: usize,
+    pub from: usize,
+    pub to: usize,
+}
+
+// Those of a production, and its action.
+pub struct Elements {
+    pub side: Element,
+    pub action: Action,
+    pub dependent: Element,
 }
 
 // The one that stands first: from the cell's start to k.
@@ -14,9 +23,9 @@ pub fn first_at(c: Cell, k: u8, symbol: u8) -> Element
     ensures { λ r. ⌜ (r .symbol ≡ symbol) × (r .from ≡ c .from) × (r .to ≡ k) ⌝ }
 {
     Element {
-        symbol,
-        from: c.from,
-        to: k,
+        symbol: wide(symbol),
+        from: wide(c.from),
+        to: wide(k),
     }
 }
 
@@ -25,8 +34,8 @@ pub fn last_at(c: Cell, k: u8, symbol: u8) -> Element
     ensures { λ r. ⌜ (r .symbol ≡ symbol) × (r .from ≡ k) × (r .to ≡ c .to) ⌝ }
 {
     Element {
-        symbol,
-        from: k,
-        to: c.to,
+        symbol: wide(symbol),
+        from: wide(k),
+        to: wide(c.to),
     }
 }

@@ -1,6 +1,9 @@
 // The deduction steps of one production over one split. In each contract the records that may be added are those of the model
 // (chart_model), made from the records that were there when the cell was begun.
 use crate::element::Element;
+use crate::element::Elements;
+use crate::element::first_at;
+use crate::element::last_at;
 use crate::hand::Side;
 use card::Action;
 use card::Production;
@@ -64,15 +67,15 @@ fn by_action(
     requires { ⌜ Working (z .words) (z .symbols) (z .room) (c .left) (c .from) (c .to) (now chart) (now marks) count × (z .base ≤ count) × Indexed (z .words) (z .symbols) (chartIn (now chart) (z .base)) (now index) × ActionFits (actionFrom a) × SpanFits (z .words) (z .symbols) (d .symbol) (d .from) (d .to) × Covering (z .words) (z .symbols) (c .left) (c .from) (c .to) (chartIn (now chart) (z .base)) (chartIn (now chart) count) (now covers) × SpanFits (z .words) (z .symbols) (c .left) (c .from) (c .to) ⌝ }
     ensures { λ r. ⌜ Advanced (z .words) (z .symbols) (z .room) (c .left) (c .from) (c .to) (z .base) (byAction (chartIn (now (chart .entry)) (z .base)) (actionFrom a) (d .symbol) (d .from) (d .to) (c .left) (c .from) (c .to) (s .production) (s .position)) (now (chart .entry)) (now (marks .entry)) count (now (chart .exit)) (now (marks .exit)) (now (covers .exit)) r ⌝ }
 {
-    let at = records::index::cell_at(z.words, z.symbols, wide(d.symbol), wide(d.from), wide(d.to));
+    let at = records::index::cell_at(z.words, z.symbols, d.symbol, d.from, d.to);
     let r = records::index::range_of(index, at);
     match a {
         Action::Take(g) => {
             let f = Foot {
                 index: g,
-                symbol: d.symbol,
-                from: d.from,
-                to: d.to,
+                symbol: d.symbol as u8,
+                from: d.from as u8,
+                to: d.to as u8,
             };
             let number = 8 * at + wide(g) - 1;
             take_one(chart, marks, z, c, s, f, number, r.from, r.to, count)
@@ -122,13 +125,7 @@ fn with_side(
     requires { ⌜ Working (z .words) (z .symbols) (z .room) (c .left) (c .from) (c .to) (now chart) (now marks) count × (z .base ≤ count) × Indexed (z .words) (z .symbols) (chartIn (now chart) (z .base)) (now index) × ActionFits (actionFrom a) × SpanFits (z .words) (z .symbols) (d .symbol) (d .from) (d .to) × SpanFits (z .words) (z .symbols) (side .symbol) (side .from) (side .to) × Covering (z .words) (z .symbols) (c .left) (c .from) (c .to) (chartIn (now chart) (z .base)) (chartIn (now chart) count) (now covers) × SpanFits (z .words) (z .symbols) (c .left) (c .from) (c .to) ⌝ }
     ensures { λ r. ⌜ Advanced (z .words) (z .symbols) (z .room) (c .left) (c .from) (c .to) (z .base) (concatMap (byAction (chartIn (now (chart .entry)) (z .base)) (actionFrom a) (d .symbol) (d .from) (d .to) (c .left) (c .from) (c .to) p) (barePlaces (chartIn (now (chart .entry)) (z .base)) (side .symbol) (side .from) (side .to))) (now (chart .entry)) (now (marks .entry)) count (now (chart .exit)) (now (marks .exit)) (now (covers .exit)) r ⌝ }
 {
-    let at = records::index::cell_at(
-        z.words,
-        z.symbols,
-        wide(side.symbol),
-        wide(side.from),
-        wide(side.to),
-    );
+    let at = records::index::cell_at(z.words, z.symbols, side.symbol, side.from, side.to);
     let r = records::index::range_of(index, at);
     let bare = r.bare;
     if bare == 0 {
@@ -156,33 +153,41 @@ pub fn by_production(
     requires { ⌜ Working (z .words) (z .symbols) (z .room) (c .left) (c .from) (c .to) (now chart) (now marks) count × (z .base ≤ count) × Indexed (z .words) (z .symbols) (chartIn (now chart) (z .base)) (now index) × RuleFits (z .symbols) (ruleFrom rule) × (c .from < k) × (k < c .to) × (c .to ≤ z .words) × Covering (z .words) (z .symbols) (c .left) (c .from) (c .to) (chartIn (now chart) (z .base)) (chartIn (now chart) count) (now covers) × SpanFits (z .words) (z .symbols) (c .left) (c .from) (c .to) ⌝ }
     ensures { λ r. ⌜ Advanced (z .words) (z .symbols) (z .room) (c .left) (c .from) (c .to) (z .base) (byRule (chartIn (now (chart .entry)) (z .base)) (c .left) (c .from) k (c .to) p (ruleFrom rule)) (now (chart .entry)) (now (marks .entry)) count (now (chart .exit)) (now (marks .exit)) (now (covers .exit)) r ⌝ }
 {
-    match rule {
-        Production::Word { left: _, word: _ } => count,
+    let met = match rule {
+        Production::Word { left: _, word: _ } => return count,
         Production::SideFirst {
             left,
-            action: a,
+            action,
             side,
             dependent,
         } => {
             if left != c.left {
                 return count;
             }
-            let first = crate::element::first_at(c, k, side);
-            let last = crate::element::last_at(c, k, dependent);
-            with_side(chart, marks, index, covers, z, c, p, first, a, last, count)
+            Elements {
+                side: first_at(c, k, side),
+                action,
+                dependent: last_at(c, k, dependent),
+            }
         }
         Production::SideLast {
             left,
-            action: a,
+            action,
             dependent,
             side,
         } => {
             if left != c.left {
                 return count;
             }
-            let first = crate::element::first_at(c, k, dependent);
-            let last = crate::element::last_at(c, k, side);
-            with_side(chart, marks, index, covers, z, c, p, last, a, first, count)
+            Elements {
+                side: last_at(c, k, side),
+                action,
+                dependent: first_at(c, k, dependent),
+            }
         }
-    }
+    };
+    let side = met.side;
+    let a = met.action;
+    let d = met.dependent;
+    with_side(chart, marks, index, covers, z, c, p, side, a, d, count)
 }

@@ -30,7 +30,8 @@ abbrev continuations : {R : Range} (c : tie.After-number-at) → let a = c .befo
     let at = c .number-at .result / 8 in
     R ≡ rangeIn (a .index .now) at → CellRange (a .z .words) (a .z .symbols) (chartIn (a .chart .now) (a .z .base)) at (R .from) (R .to)
 continuations c r =
-    let s = c .before .before .before .before .before .before .before .before in cell-range (s .args .chart .now) (s .args .z .base) (s .pre .4) (span c) refl refl refl (place c) r
+    let s = c .before .before .before .before .before .before .before .before in
+    cell-range (s .args .chart .now) (s .args .z .base) (s .pre .4) (span c) (place c) r
 
 inside : (c : tie.After-number-at) → let a = c .before .before .before .before .before .before .before .before .args in c .number-at .result / 8 < spans (a .z .words) * a .z .symbols
 inside c =

@@ -14,15 +14,6 @@ use borrow.Author.Needs.{needs}
 use Rattle.steps.proofs.step.by_action.Statement.{statement}
 use Rattle.steps.proofs.step.by_action.Tie as tie
 
-wide-requires : tie.Need-wide-requires
-wide-requires c κs = search needs
-
-wide-requires-2 : tie.Need-wide-requires-2
-wide-requires-2 c κs = search needs
-
-wide-requires-3 : tie.Need-wide-requires-3
-wide-requires-3 c κs = search needs
-
 cell-at-requires : tie.Need-cell-at-requires
 cell-at-requires c κs = search needs
 
@@ -30,49 +21,58 @@ range-of-requires : tie.Need-range-of-requires
 range-of-requires c κs = search needs
 
 -- What was read from the table: a range of positions below the base, those of the dependent's records.
-below : (c : tie.After-range-of) → c .range-of .result .to ≤ c .before .before .before .before .before .before .before .before .before .args .z .base
+below : (c : tie.After-range-of) → c .range-of .result .to ≤ c .before .before .before .before .before .before .args .z .base
 below c =
-    let s = c .before .before .before .before .before .before .before .before .before in
+    let s = c .before .before .before .before .before .before in
     to-below (s .args .chart .now) (s .args .z .base) (s .pre .2) (c .before .cell-at .result) (c .range-of .ensures)
 
-abbrev dependents : (c : tie.After-range-of) → let a = c .before .before .before .before .before .before .before .before .before .args in
+abbrev dependents : (c : tie.After-range-of) → let a = c .before .before .before .before .before .before .args in
     let r = c .range-of .result in
     CellRange (a .z .words) (a .z .symbols) (chartIn (a .chart .now) (a .z .base)) (c .before .cell-at .result) (r .from) (r .to)
 dependents c =
-    let s = c .before .before .before .before .before .before .before .before .before in
-    cell-range (s .args .chart .now) (s .args .z .base) (s .pre .2) (s .pre .4) (c .before .before .before .before .wide .ensures .0)
-    (c .before .before .before .wide2 .ensures .0) (c .before .before .wide3 .ensures .0) (c .before .cell-at .ensures .0) (c .range-of .ensures)
+    let s = c .before .before .before .before .before .before in
+    cell-range (s .args .chart .now) (s .args .z .base) (s .pre .2) (s .pre .4) (c .before .cell-at .ensures .0) (c .range-of .ensures)
 
 enum-known-a : tie.Need-enum-known-a
 enum-known-a c = search needs
 
+cast-t18 : tie.Need-cast-t18
+cast-t18 c = search needs
+
+cast-t19 : tie.Need-cast-t19
+cast-t19 c = search needs
+
+cast-t20 : tie.Need-cast-t20
+cast-t20 c = search needs
+
 mul-number : tie.Need-mul-number
 mul-number c = search needs
 
-wide-requires-4 : tie.Need-wide-requires-4
-wide-requires-4 c κs = search needs
+wide-requires : tie.Need-wide-requires
+wide-requires c κs = search needs
 
 add-number : tie.Need-add-number
 add-number c = search needs
 
 -- The index to take is counted.
 taken : (c : tie.After-a) → (1 ≤ c .a .given .0 .0) × (c .a .given .0 .0 ≤ 8)
-taken c = subst (λ a. ActionFits (actionFrom a)) (c .a .given .1) (c .before .before .before .before .before .before .before .before .before .before .before .pre .3)
+taken c = subst (λ a. ActionFits (actionFrom a)) (c .a .given .1) (c .before .before .before .before .before .before .before .before .pre .3)
 
 sub-number : tie.Need-sub-number
-sub-number c = omega (arith, taken (c .before .before) .0, c .wide4 .ensures .0)
+sub-number c = omega (arith, taken (c .before .before .before .before .before) .0, c .wide .ensures .0)
 
 take-one-requires : tie.Need-take-one-requires
 take-one-requires c κs =
-    let q = c .before .before .before .before .before .before .before .before .before .before .before .before .before .before .before .pre in
-    let r = c .before .before .before .before .before .before in
-    let (l, h) = taken (c .before .before .before .before) in (
+    let t = c .before .before .before .before .before .before .before in
+    let r = t .before .before in
+    let q = r .before .before .before .before .before .before .pre in
+    let (l, h) = taken t in (
       q .0,
       below r,
       q .1,
       foot-made _ _ _ _ _ _ l h (q .4),
       with-index _ l,
-      foot-numbered _ _ _ _ _ _ l (dependents r .number) (c .before .before .wide4 .ensures .0) refl,
+      foot-numbered _ _ _ _ _ _ l (dependents r .number) (c .before .before .wide .ensures .0) refl,
     )
 
 enum-told : tie.Need-enum-told
@@ -80,8 +80,8 @@ enum-told c = search needs
 
 keep-all-requires : tie.Need-keep-all-requires
 keep-all-requires c κs =
-    let q = c .before .before .before .before .before .before .before .before .before .before .before .before .before .before .pre in
     let r = c .before .before .before .before .before in
+    let q = r .before .before .before .before .before .before .pre in
     (q .0, below r, q .1, dependents r, q .5, q .6)
 
 enum-known-a-2 : tie.Need-enum-known-a-2
@@ -89,9 +89,10 @@ enum-known-a-2 c = search needs
 
 give-each-requires : tie.Need-give-each-requires
 give-each-requires c κs =
-    let q = c .before .before .before .before .before .before .before .before .before .before .before .before .before .before .before .pre in
+    let r = c .before .before .before .before .before .before in
+    let q = r .before .before .before .before .before .before .pre in
     let (l, h) = subst (λ a. ActionFits (actionFrom a)) (c .before .before .before .before .a2 .given .1) (q .3) in
-    (q .0, below (c .before .before .before .before .before .before), q .1, l, q .2, q .5, q .6)
+    (q .0, below r, q .1, l, q .2, q .5, q .6)
 
 same-length : tie.Need-same-length
 same-length c = search needs
@@ -101,10 +102,11 @@ same-length-2 c = search needs
 
 returns : tie.Need-returns
 returns c =
-    let r = c .before .before .before .before .before .before .before .before .before .before .before in
-    let q = r .before .before .before .before .before .before .before .before .before .pre in
-    let t = c .before .before .before .before .before .before .before .before .before in
-    advanced-kept _ (q .5) (added-as (by-take _ _ _ _ _ _ _ _ _ (r .range-of .result) (dependents r .stands) (t .a .given .1) (taken t .0)) (c .before .before .before .before .take-one .ensures))
+    let t = c .before .before .before .before .before .before .before .before .before .before .before .before in
+    let r = t .before .before in
+    advanced-kept _ (r .before .before .before .before .before .before .pre .5)
+    (added-as (by-take _ _ _ _ _ _ _ _ _ (r .range-of .result) (dependents r .stands) (t .a .given .1) (taken t .0))
+    (c .before .before .before .before .take-one .ensures))
 
 same-length-3 : tie.Need-same-length-3
 same-length-3 c = search needs
@@ -117,8 +119,9 @@ same-length-5 c = search needs
 
 returns-2 : tie.Need-returns-2
 returns-2 c =
-    let r = c .before .before .before .before .before .before .before .before .before .before .before .before in
-    advanced-as (by-keep _ _ _ _ _ _ _ _ _ (r .range-of .result) (dependents r .stands) (c .before .before .before .before .before .before .before .before .before .before .enum-told .given .1))
+    let t = c .before .before .before .before .before .before .before .before .before .before in
+    let r = t .before .before in
+    advanced-as (by-keep _ _ _ _ _ _ _ _ _ (r .range-of .result) (dependents r .stands) (t .enum-told .given .1))
     (c .before .before .before .before .before .before .keep-all .ensures)
 
 same-length-6 : tie.Need-same-length-6
@@ -132,22 +135,23 @@ same-length-8 c = search needs
 
 returns-3 : tie.Need-returns-3
 returns-3 c =
-    let r = c .before .before .before .before .before .before .before .before .before .before .before .before .before in
-    advanced-as (by-give _ _ _ _ _ _ _ _ _ (r .range-of .result) (dependents r .stands) (c .before .before .before .before .before .before .before .before .before .before .before .a2 .given .1))
+    let t = c .before .before .before .before .before .before .before .before .before .before .before in
+    let r = t .before .before in
+    advanced-as (by-give _ _ _ _ _ _ _ _ _ (r .range-of .result) (dependents r .stands) (t .a2 .given .1))
     (c .before .before .before .before .before .before .give-each .ensures)
 
 pub by-action-spec : {M : Type 1} → statement M
 by-action-spec =
     tie.close
     (tie.spec
-    wide-requires
-    wide-requires-2
-    wide-requires-3
     cell-at-requires
     range-of-requires
     enum-known-a
+    cast-t18
+    cast-t19
+    cast-t20
     mul-number
-    wide-requires-4
+    wide-requires
     add-number
     sub-number
     take-one-requires

@@ -1,7 +1,10 @@
 -- `by_production` adds the records of one production at one split, by its shape: none for a word or under another left side, and else
--- those of the side and the dependent, the first before k and the last after it.
+-- those of the two elements that meet there, whichever of the two arms they came by.
+use mathlib.Core.Path.{_≡_}
+use mathlib.Core.Logic.{⊎-elim}
+use Rattle.records.specs.Room.{chartIn}
 use Rattle.steps.proofs.StepLaws.{added-none, added-as}
-use Rattle.steps.proofs.StepCandidates.{by-word, first-other, last-other, first-same, last-same, first-fits, last-fits}
+use Rattle.steps.proofs.StepCandidates.{made, byElements, by-word, first-other, last-other, first-same, last-same, ElementsFit, first-fits, last-fits}
 use Rattle.steps.proofs.StepCover.{advanced-kept, advanced-as}
 use borrow.Author.Needs.{needs}
 use Rattle.steps.proofs.step.by_production.Statement.{statement}
@@ -10,11 +13,16 @@ use Rattle.steps.proofs.step.by_production.Tie as tie
 enum-told : tie.Need-enum-told
 enum-told c = search needs
 
+returns : tie.Need-returns
+returns c =
+    let q = c .before .before .before .before .before .before .pre in
+    advanced-kept _ (q .7) (added-as (by-word _ _ _ _ (c .enum-told .given .1)) (added-none (q .0)))
+
 enum-known-rule : tie.Need-enum-known-rule
 enum-known-rule c = search needs
 
-returns : tie.Need-returns
-returns c =
+returns-2 : tie.Need-returns-2
+returns-2 c =
     let q = c .before .before .before .before .before .before .before .before .before .pre in
     advanced-kept _ (q .7) (added-as (first-other _ _ _ _ (c .before .before .before .rule .given .1) (c .if1 .taken)) (added-none (q .0)))
 
@@ -24,40 +32,45 @@ first-at-requires c κs = search needs
 last-at-requires : tie.Need-last-at-requires
 last-at-requires c κs = search needs
 
-with-side-requires : tie.Need-with-side-requires
-with-side-requires c κs =
-    let r = c .before .before .before .before .before .before .before .before in
-    let s = r .before .before .before .before .before .before in
-    let q = s .pre in
-    let (a, side, dependent) = first-fits (s .args .z .symbols) (s .args .rule) (q .3) (r .rule .given .1) in
-    (q .0, q .1, q .2, a, search needs, search needs, q .7, q .8)
-
 enum-known-rule-2 : tie.Need-enum-known-rule-2
 enum-known-rule-2 c = search needs
 
-returns-2 : tie.Need-returns-2
-returns-2 c =
+returns-3 : tie.Need-returns-3
+returns-3 c =
     let q = c .before .before .before .before .before .before .before .before .before .pre in
     advanced-kept _ (q .7) (added-as (last-other _ _ _ _ (c .before .before .before .rule2 .given .1) (c .if2 .taken)) (added-none (q .0)))
-
-first-at-requires-2 : tie.Need-first-at-requires-2
-first-at-requires-2 c κs = search needs
 
 last-at-requires-2 : tie.Need-last-at-requires-2
 last-at-requires-2 c κs = search needs
 
-with-side-requires-2 : tie.Need-with-side-requires-2
-with-side-requires-2 c κs =
-    let r = c .before .before .before .before .before .before .before .before in
-    let s = r .before .before .before .before .before .before in
-    let q = s .pre in
-    let (a, side, dependent) = last-fits (s .args .z .symbols) (s .args .rule) (q .3) (r .rule2 .given .1) in
-    (q .0, q .1, q .2, a, search needs, search needs, q .7, q .8)
+first-at-requires-2 : tie.Need-first-at-requires-2
+first-at-requires-2 c κs = search needs
 
-returns-3 : tie.Need-returns-3
-returns-3 c =
-    let q = c .before .before .before .before .before .before .pre in
-    advanced-kept _ (q .7) (added-as (by-word _ _ _ _ (c .enum-told .given .1)) (added-none (q .0)))
+-- The elements that met, by the shape of the production: they fit, and their records are the production's.
+fits : (c : tie.At-match-came) → let a = c .before .before .before .before .before .args in ElementsFit (a .z .words) (a .z .symbols) (c .match .met)
+fits c =
+    let s = c .before .before .before .before .before in
+    let a = s .args in
+    let q = s .pre in
+    ⊎-elim
+    (λ w. first-fits (a .z .words) (a .z .symbols) (a .c) (a .k) (a .rule) (q .3) (q .4) (q .5) (q .6) (w .7) (w .1 .given .1) (w .5 .ensures) (w .6 .ensures))
+    (λ w. last-fits (a .z .words) (a .z .symbols) (a .c) (a .k) (a .rule) (q .3) (q .4) (q .5) (q .6) (w .7) (w .1 .given .1) (w .5 .ensures) (w .6 .ensures))
+    (c .match .came)
+
+same : (c : tie.At-match-came) → let a = c .before .before .before .before .before .args in
+    let b = chartIn (a .chart .now) (a .z .base) in
+    byElements b (a .c) (a .k) (a .p) (c .match .met) ≡ made b (a .c) (a .k) (a .p) (a .rule)
+same c =
+    let a = c .before .before .before .before .before .args in
+    let b = chartIn (a .chart .now) (a .z .base) in
+    ⊎-elim (λ w. first-same b (a .c) (a .k) (a .p) (w .7) (w .1 .given .1) (w .4 .left) (w .5 .ensures) (w .6 .ensures))
+    (λ w. last-same b (a .c) (a .k) (a .p) (w .7) (w .1 .given .1) (w .4 .left) (w .5 .ensures) (w .6 .ensures)) (c .match .came)
+
+with-side-requires : tie.Need-with-side-requires
+with-side-requires c κs =
+    let q = c .before .before .before .before .before .before .before .before .before .before .pre in
+    let (a, side, dependent) = fits (c .before .before .before .before .before) in
+    (q .0, q .1, q .2, a, search needs, search needs, q .7, q .8)
 
 same-length : tie.Need-same-length
 same-length c = search needs
@@ -70,50 +83,25 @@ same-length-3 c = search needs
 
 returns-4 : tie.Need-returns-4
 returns-4 c =
-    let d = c .before .before .before .before .before .before .before .before .before .before in
-    advanced-as
-    (first-same _ _ _ _ (d .before .before .before .before .before .rule .given .1) (d .before .before .if1 .left)
-    (d .before .first-at .ensures) (d .last-at .ensures))
+    advanced-as (same (c .before .before .before .before .before .before .before .before .before .before .before .before))
     (c .before .before .before .before .before .before .with-side .ensures)
-
-same-length-4 : tie.Need-same-length-4
-same-length-4 c = search needs
-
-same-length-5 : tie.Need-same-length-5
-same-length-5 c = search needs
-
-same-length-6 : tie.Need-same-length-6
-same-length-6 c = search needs
-
-returns-5 : tie.Need-returns-5
-returns-5 c =
-    let d = c .before .before .before .before .before .before .before .before .before .before in
-    advanced-as
-    (last-same _ _ _ _ (d .before .before .before .before .before .rule2 .given .1) (d .before .before .if2 .left)
-    (d .before .first-at2 .ensures) (d .last-at2 .ensures))
-    (c .before .before .before .before .before .before .with-side2 .ensures)
 
 pub by-production-spec : {M : Type 1} → statement M
 by-production-spec =
     tie.close
     (tie.spec
     enum-told
-    enum-known-rule
     returns
+    enum-known-rule
+    returns-2
     first-at-requires
     last-at-requires
-    with-side-requires
     enum-known-rule-2
-    returns-2
-    first-at-requires-2
-    last-at-requires-2
-    with-side-requires-2
     returns-3
+    last-at-requires-2
+    first-at-requires-2
+    with-side-requires
     same-length
     same-length-2
     same-length-3
-    returns-4
-    same-length-4
-    same-length-5
-    same-length-6
-    returns-5)
+    returns-4)

@@ -11,15 +11,6 @@ use borrow.Author.Needs.{needs}
 use Rattle.steps.proofs.step.with_side.Statement.{statement}
 use Rattle.steps.proofs.step.with_side.Tie as tie
 
-wide-requires : tie.Need-wide-requires
-wide-requires c κs = search needs
-
-wide-requires-2 : tie.Need-wide-requires-2
-wide-requires-2 c κs = search needs
-
-wide-requires-3 : tie.Need-wide-requires-3
-wide-requires-3 c κs = search needs
-
 cell-at-requires : tie.Need-cell-at-requires
 cell-at-requires c κs = search needs
 
@@ -27,25 +18,26 @@ range-of-requires : tie.Need-range-of-requires
 range-of-requires c κs = search needs
 
 -- What was read from the table: the position of the side's bare item.
-found : (c : tie.After-range-of) → let a = c .before .before .before .before .before .before .before .before .before .args in
+found : (c : tie.After-range-of) → let a = c .before .before .before .before .before .before .args in
     barePlaces (chartIn (a .chart .now) (a .z .base)) (a .side .symbol) (a .side .from) (a .side .to) ≡ bareIn (c .range-of .result .bare)
 found c =
-    let s = c .before .before .before .before .before .before .before .before .before in
-    range-bares (s .args .chart .now) (s .args .z .base) (s .pre .2) (s .pre .5) (c .before .before .before .before .wide .ensures .0)
-    (c .before .before .before .wide2 .ensures .0) (c .before .before .wide3 .ensures .0) (c .before .cell-at .ensures .0) (c .range-of .ensures)
+    let s = c .before .before .before .before .before .before in
+    range-bares (s .args .chart .now) (s .args .z .base) (s .pre .2) (s .pre .5) (c .before .cell-at .ensures .0) (c .range-of .ensures)
 
 returns : tie.Need-returns
 returns c =
-    let q = c .before .before .before .before .before .before .before .before .before .before .pre in
-    advanced-kept _ (q .6) (added-as (sym (no-bare _ _ (found (c .before)) (c .if1 .taken))) (added-none (q .0)))
+    let r = c .before in
+    let q = r .before .before .before .before .before .before .pre in
+    advanced-kept _ (q .6) (added-as (sym (no-bare _ _ (found r) (c .if1 .taken))) (added-none (q .0)))
 
-sub-t16 : tie.Need-sub-t16
-sub-t16 c = search needs
+sub-t17 : tie.Need-sub-t17
+sub-t17 c = search needs
 
-cast-t20 : tie.Need-cast-t20
-cast-t20 c =
-    let s = c .before .before .before .before .before .before .before .before .before .before in
-    let h = bare-below (s .args .chart .now) (s .args .z .base) (s .pre .2) (c .before .before .cell-at .result) (c .before .range-of .ensures) in
+cast-t18 : tie.Need-cast-t18
+cast-t18 c =
+    let r = c .before in
+    let s = r .before .before .before .before .before .before in
+    let h = bare-below (s .args .chart .now) (s .args .z .base) (s .pre .2) (r .before .cell-at .result) (r .range-of .ensures) in
     omega (arith, h, s .pre .1, s .pre .0 .countFits, s .pre .0 .roomSmall)
 
 by-action-requires : tie.Need-by-action-requires
@@ -62,20 +54,18 @@ same-length-3 c = search needs
 
 returns-2 : tie.Need-returns-2
 returns-2 c =
-    advanced-as (sym (one-bare _ _ (found (c .before .before .before .before .before .before .before .before .before .before .before)) (c .before .before .before .before .before .before .before .before .before .before .if1 .left))) (c .before .before .before .before .before .before .by-action .ensures)
+    let e = c .before .before .before .before .before .before .before .before .before .before in
+    advanced-as (sym (one-bare _ _ (found (e .before)) (e .if1 .left))) (c .before .before .before .before .before .before .by-action .ensures)
 
 pub with-side-spec : {M : Type 1} → statement M
 with-side-spec =
     tie.close
     (tie.spec
-    wide-requires
-    wide-requires-2
-    wide-requires-3
     cell-at-requires
     range-of-requires
     returns
-    sub-t16
-    cast-t20
+    sub-t17
+    cast-t18
     by-action-requires
     same-length
     same-length-2
