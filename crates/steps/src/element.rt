@@ -1,7 +1,7 @@
 // The two elements of a production that meet at a place k of a cell.
 use card::Action;
+use octets::wide;
 use records::record::Cell;
-use records::record::wide;
 ghost use mathlib.Core.Path.{_≡_};
 
 // A nonterminal over a stretch: a side or a dependent. Whole numbers, by which the table of cells is asked.
