@@ -252,10 +252,10 @@ uint64_t lig_name(const uint8_t *card, size_t card_length, size_t word);
  *
  *     line of        1 to 6 words   7 to 12 words   13 to 24 words
  *     lig_card_check      88              88              88
- *     lig_read        15,160          15,184          63,640
- *     lig_read/few    15,160          15,184          36,648
- *     lig_check          968             968             968
- *     lig_pairs        1,032           1,032           1,032
+ *     lig_read        14,728          15,856          63,208
+ *     lig_read/few    14,728          15,856          36,216
+ *     lig_check        1,176           1,176           1,176
+ *     lig_pairs        1,256           1,256           1,256
  *     lig_name           104             104             104
  *
  * lig_read/few is lig_read with a card of at most 6 nonterminals. lig_read takes 13,056 of them at
@@ -266,8 +266,8 @@ uint64_t lig_name(const uint8_t *card, size_t card_length, size_t word);
 #define LIG_STACK_CARD_CHECK 256
 #define LIG_STACK_READ 63872
 #define LIG_STACK_READ_FEW 36864 /* with a card of at most 6 nonterminals */
-#define LIG_STACK_CHECK 1280
-#define LIG_STACK_PAIRS 1280
+#define LIG_STACK_CHECK 1408
+#define LIG_STACK_PAIRS 1408
 #define LIG_STACK_NAME 512
 
 #ifdef __cplusplus
