@@ -32,13 +32,19 @@ abbrev pub coirTakesMild : List ℕ
 coirTakesMild = 99 ∷ 111 ∷ 105 ∷ 114 ∷ 32 ∷ 116 ∷ 97 ∷ 107 ∷ 101 ∷ 115 ∷ 32 ∷ 109 ∷ 105 ∷ 108 ∷ 100 ∷ []
 
 abbrev pub coirWoolTakesMildRich : List ℕ
-coirWoolTakesMildRich = 99 ∷ 111 ∷ 105 ∷ 114 ∷ 32 ∷ 119 ∷ 111 ∷ 111 ∷ 108 ∷ 32 ∷ 116 ∷ 97 ∷ 107 ∷ 101 ∷ 115 ∷ 32 ∷ 109 ∷ 105 ∷ 108 ∷ 100 ∷ 32 ∷ 114 ∷ 105 ∷ 99 ∷ 104 ∷ []
+coirWoolTakesMildRich =
+    99 ∷ 111 ∷ 105 ∷ 114 ∷ 32 ∷ 119 ∷ 111 ∷ 111 ∷ 108 ∷ 32 ∷ 116 ∷ 97 ∷ 107 ∷ 101 ∷ 115 ∷ 32 ∷ 109 ∷ 105 ∷ 108 ∷ 100 ∷ 32 ∷ 114
+    ∷ 105 ∷ 99 ∷ 104 ∷ []
 
 abbrev pub coirWoolTakesRichMild : List ℕ
-coirWoolTakesRichMild = 99 ∷ 111 ∷ 105 ∷ 114 ∷ 32 ∷ 119 ∷ 111 ∷ 111 ∷ 108 ∷ 32 ∷ 116 ∷ 97 ∷ 107 ∷ 101 ∷ 115 ∷ 32 ∷ 114 ∷ 105 ∷ 99 ∷ 104 ∷ 32 ∷ 109 ∷ 105 ∷ 108 ∷ 100 ∷ []
+coirWoolTakesRichMild =
+    99 ∷ 111 ∷ 105 ∷ 114 ∷ 32 ∷ 119 ∷ 111 ∷ 111 ∷ 108 ∷ 32 ∷ 116 ∷ 97 ∷ 107 ∷ 101 ∷ 115 ∷ 32 ∷ 114 ∷ 105 ∷ 99 ∷ 104 ∷ 32 ∷ 109
+    ∷ 105 ∷ 108 ∷ 100 ∷ []
 
 abbrev pub coirCoirTakesMildMild : List ℕ
-coirCoirTakesMildMild = 99 ∷ 111 ∷ 105 ∷ 114 ∷ 32 ∷ 99 ∷ 111 ∷ 105 ∷ 114 ∷ 32 ∷ 116 ∷ 97 ∷ 107 ∷ 101 ∷ 115 ∷ 32 ∷ 109 ∷ 105 ∷ 108 ∷ 100 ∷ 32 ∷ 109 ∷ 105 ∷ 108 ∷ 100 ∷ []
+coirCoirTakesMildMild =
+    99 ∷ 111 ∷ 105 ∷ 114 ∷ 32 ∷ 99 ∷ 111 ∷ 105 ∷ 114 ∷ 32 ∷ 116 ∷ 97 ∷ 107 ∷ 101 ∷ 115 ∷ 32 ∷ 109 ∷ 105 ∷ 108 ∷ 100 ∷ 32 ∷ 109
+    ∷ 105 ∷ 108 ∷ 100 ∷ []
 
 abbrev pub coirCoirTakesMild : List ℕ
 coirCoirTakesMild = 99 ∷ 111 ∷ 105 ∷ 114 ∷ 32 ∷ 99 ∷ 111 ∷ 105 ∷ 114 ∷ 32 ∷ 116 ∷ 97 ∷ 107 ∷ 101 ∷ 115 ∷ 32 ∷ 109 ∷ 105 ∷ 108 ∷ 100 ∷ []
@@ -66,7 +72,11 @@ abbrev pub planOne : List ℕ
 planOne = planBytes (planStep 7 0 1 3 ∷ planStep 0 0 1 1 ∷ planStep 9 1 2 3 ∷ planStep 2 1 2 2 ∷ planStep 3 2 3 3 ∷ [])
 
 abbrev pub planTwo : List ℕ
-planTwo = planBytes (planStep 5 0 1 5 ∷ planStep 0 0 1 1 ∷ planStep 8 1 2 5 ∷ planStep 1 1 2 2 ∷ planStep 10 2 4 5 ∷ planStep 9 2 3 4 ∷ planStep 2 2 3 3 ∷ planStep 3 3 4 4 ∷ planStep 4 4 5 5 ∷ [])
+planTwo =
+    planBytes (planStep 5 0 1 5 ∷ planStep 0 0 1 1 ∷ planStep 8 1 2 5 ∷ planStep 1 1 2 2 ∷ planStep 10 2 4 5 ∷ planStep 9 2 3 4
+    ∷ planStep 2 2 3 3 ∷ planStep 3 3 4 4 ∷ planStep 4 4 5 5 ∷ [])
 
 abbrev pub planFour : List ℕ
-planFour = planBytes (planStep 5 0 1 5 ∷ planStep 0 0 1 1 ∷ planStep 7 1 2 5 ∷ planStep 0 1 2 2 ∷ planStep 9 2 4 5 ∷ planStep 9 2 3 4 ∷ planStep 2 2 3 3 ∷ planStep 3 3 4 4 ∷ planStep 3 4 5 5 ∷ [])
+planFour =
+    planBytes (planStep 5 0 1 5 ∷ planStep 0 0 1 1 ∷ planStep 7 1 2 5 ∷ planStep 0 1 2 2 ∷ planStep 9 2 4 5 ∷ planStep 9 2 3 4
+    ∷ planStep 2 2 3 3 ∷ planStep 3 3 4 4 ∷ planStep 3 4 5 5 ∷ [])

@@ -25,8 +25,10 @@ pub fn add(
     o: Origin,
     count: usize,
 ) -> usize
-    requires { ⌜ Working (z .words) (z .symbols) (z .room) (c .left) (c .from) (c .to) (now chart) (now marks) count × FootFits (z .words) (z .symbols) (footFrom f) × Writable f × (number ≡ footNumber (z .words) (z .symbols) (footFrom f)) ⌝ }
-    ensures { λ r. ⌜ Added (z .words) (z .symbols) (z .room) (c .left) (c .from) (c .to) (recordFrom c f o ∷ []) (now (chart .entry)) (now (marks .entry)) count (now (chart .exit)) (now (marks .exit)) r ⌝ }
+    requires { ⌜ Working (z .words) (z .symbols) (z .room) (c .left) (c .from) (c .to) (now chart) (now marks) count
+        × FootFits (z .words) (z .symbols) (footFrom f) × Writable f × (number ≡ footNumber (z .words) (z .symbols) (footFrom f)) ⌝ }
+    ensures { λ r. ⌜ Added (z .words) (z .symbols) (z .room) (c .left) (c .from) (c .to) (recordFrom c f o ∷ []) (now (chart .entry))
+        (now (marks .entry)) count (now (chart .exit)) (now (marks .exit)) r ⌝ }
 {
     if crate::marks::seen(marks, number) {
         return count;

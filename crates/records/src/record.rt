@@ -82,7 +82,8 @@ fn put_all(room: &mut [u8], at: usize, src: &[u8; RECORD])
 
 pub fn put_record(chart: &mut [u8], m: usize, c: Cell, f: Foot, number: u16, o: Origin)
     requires { ⌜ (16 * m + 16 ≤ length (now chart)) × Writable f ⌝ }
-    ensures { λ r. ⌜ now (chart .exit) ≡ take (16 * m) (now (chart .entry)) ++ (withNumber number (recordFrom c f o) ++ drop (16 * m + 16) (now (chart .entry))) ⌝ }
+    ensures { λ r. ⌜ now (chart .exit) ≡ take (16 * m) (now (chart .entry)) ++ (withNumber number (recordFrom c f o) ++ drop (16 * m + 16)
+        (now (chart .entry))) ⌝ }
 {
     let bytes = [
         c.left,

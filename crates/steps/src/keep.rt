@@ -22,7 +22,9 @@ fn keep_each(
     count: usize,
 ) -> usize
     requires { ⌜ Working (z .words) (z .symbols) (z .room) (c .left) (c .from) (c .to) (now chart) (now marks) count × (to ≤ z .base) × (z .base ≤ count) ⌝ }
-    ensures { λ r. ⌜ Added (z .words) (z .symbols) (z .room) (c .left) (c .from) (c .to) (flatUp (keptFrom (chartIn (now (chart .entry)) (z .base)) (c .left) (c .from) (c .to) (s .production) (s .position)) from (to - from)) (now (chart .entry)) (now (marks .entry)) count (now (chart .exit)) (now (marks .exit)) r ⌝ }
+    ensures { λ r. ⌜ Added (z .words) (z .symbols) (z .room) (c .left) (c .from) (c .to)
+        (flatUp (keptFrom (chartIn (now (chart .entry)) (z .base)) (c .left) (c .from) (c .to) (s .production) (s .position)) from (to - from))
+        (now (chart .entry)) (now (marks .entry)) count (now (chart .exit)) (now (marks .exit)) r ⌝ }
 {
     let mut y = from;
     let mut total = count;
@@ -57,8 +59,13 @@ pub fn keep_all(
     to: usize,
     count: usize,
 ) -> usize
-    requires { ⌜ Working (z .words) (z .symbols) (z .room) (c .left) (c .from) (c .to) (now chart) (now marks) count × (to ≤ z .base) × (z .base ≤ count) × CellRange (z .words) (z .symbols) (chartIn (now chart) (z .base)) at from to × Covering (z .words) (z .symbols) (c .left) (c .from) (c .to) (chartIn (now chart) (z .base)) (chartIn (now chart) count) (now covers) × SpanFits (z .words) (z .symbols) (c .left) (c .from) (c .to) ⌝ }
-    ensures { λ r. ⌜ Advanced (z .words) (z .symbols) (z .room) (c .left) (c .from) (c .to) (z .base) (flatUp (keptFrom (chartIn (now (chart .entry)) (z .base)) (c .left) (c .from) (c .to) (s .production) (s .position)) from (to - from)) (now (chart .entry)) (now (marks .entry)) count (now (chart .exit)) (now (marks .exit)) (now (covers .exit)) r ⌝ }
+    requires { ⌜ Working (z .words) (z .symbols) (z .room) (c .left) (c .from) (c .to) (now chart) (now marks) count × (to ≤ z .base)
+        × (z .base ≤ count) × CellRange (z .words) (z .symbols) (chartIn (now chart) (z .base)) at from to
+        × Covering (z .words) (z .symbols) (c .left) (c .from) (c .to) (chartIn (now chart) (z .base)) (chartIn (now chart) count) (now covers)
+        × SpanFits (z .words) (z .symbols) (c .left) (c .from) (c .to) ⌝ }
+    ensures { λ r. ⌜ Advanced (z .words) (z .symbols) (z .room) (c .left) (c .from) (c .to) (z .base)
+        (flatUp (keptFrom (chartIn (now (chart .entry)) (z .base)) (c .left) (c .from) (c .to) (s .production) (s .position)) from (to - from))
+        (now (chart .entry)) (now (marks .entry)) count (now (chart .exit)) (now (marks .exit)) (now (covers .exit)) r ⌝ }
 {
     if to <= from {
         return count;

@@ -37,8 +37,12 @@ fn take_one(
     to: usize,
     count: usize,
 ) -> usize
-    requires { ⌜ Working (z .words) (z .symbols) (z .room) (c .left) (c .from) (c .to) (now chart) (now marks) count × (to ≤ z .base) × (z .base ≤ count) × FootFits (z .words) (z .symbols) (footFrom f) × Writable f × (number ≡ footNumber (z .words) (z .symbols) (footFrom f)) ⌝ }
-    ensures { λ r. ⌜ Added (z .words) (z .symbols) (z .room) (c .left) (c .from) (c .to) (takenFrom (c .left) (c .from) (c .to) (s .production) (s .position) (footFrom f) (counted from (to - from))) (now (chart .entry)) (now (marks .entry)) count (now (chart .exit)) (now (marks .exit)) r ⌝ }
+    requires { ⌜ Working (z .words) (z .symbols) (z .room) (c .left) (c .from) (c .to) (now chart) (now marks) count × (to ≤ z .base)
+        × (z .base ≤ count) × FootFits (z .words) (z .symbols) (footFrom f) × Writable f
+        × (number ≡ footNumber (z .words) (z .symbols) (footFrom f)) ⌝ }
+    ensures { λ r. ⌜ Added (z .words) (z .symbols) (z .room) (c .left) (c .from) (c .to)
+        (takenFrom (c .left) (c .from) (c .to) (s .production) (s .position) (footFrom f) (counted from (to - from))) (now (chart .entry))
+        (now (marks .entry)) count (now (chart .exit)) (now (marks .exit)) r ⌝ }
 {
     if to <= from {
         return count;
@@ -64,8 +68,14 @@ fn by_action(
     d: Element,
     count: usize,
 ) -> usize
-    requires { ⌜ Working (z .words) (z .symbols) (z .room) (c .left) (c .from) (c .to) (now chart) (now marks) count × (z .base ≤ count) × Indexed (z .words) (z .symbols) (chartIn (now chart) (z .base)) (now index) × ActionFits (actionFrom a) × SpanFits (z .words) (z .symbols) (d .symbol) (d .from) (d .to) × Covering (z .words) (z .symbols) (c .left) (c .from) (c .to) (chartIn (now chart) (z .base)) (chartIn (now chart) count) (now covers) × SpanFits (z .words) (z .symbols) (c .left) (c .from) (c .to) ⌝ }
-    ensures { λ r. ⌜ Advanced (z .words) (z .symbols) (z .room) (c .left) (c .from) (c .to) (z .base) (byAction (chartIn (now (chart .entry)) (z .base)) (actionFrom a) (d .symbol) (d .from) (d .to) (c .left) (c .from) (c .to) (s .production) (s .position)) (now (chart .entry)) (now (marks .entry)) count (now (chart .exit)) (now (marks .exit)) (now (covers .exit)) r ⌝ }
+    requires { ⌜ Working (z .words) (z .symbols) (z .room) (c .left) (c .from) (c .to) (now chart) (now marks) count × (z .base ≤ count)
+        × Indexed (z .words) (z .symbols) (chartIn (now chart) (z .base)) (now index) × ActionFits (actionFrom a)
+        × SpanFits (z .words) (z .symbols) (d .symbol) (d .from) (d .to)
+        × Covering (z .words) (z .symbols) (c .left) (c .from) (c .to) (chartIn (now chart) (z .base)) (chartIn (now chart) count) (now covers)
+        × SpanFits (z .words) (z .symbols) (c .left) (c .from) (c .to) ⌝ }
+    ensures { λ r. ⌜ Advanced (z .words) (z .symbols) (z .room) (c .left) (c .from) (c .to) (z .base)
+        (byAction (chartIn (now (chart .entry)) (z .base)) (actionFrom a) (d .symbol) (d .from) (d .to) (c .left) (c .from) (c .to) (s .production)
+        (s .position)) (now (chart .entry)) (now (marks .entry)) count (now (chart .exit)) (now (marks .exit)) (now (covers .exit)) r ⌝ }
 {
     let at = records::index::cell_at(z.words, z.symbols, d.symbol, d.from, d.to);
     let r = records::index::range_of(index, at);
@@ -122,8 +132,15 @@ fn with_side(
     d: Element,
     count: usize,
 ) -> usize
-    requires { ⌜ Working (z .words) (z .symbols) (z .room) (c .left) (c .from) (c .to) (now chart) (now marks) count × (z .base ≤ count) × Indexed (z .words) (z .symbols) (chartIn (now chart) (z .base)) (now index) × ActionFits (actionFrom a) × SpanFits (z .words) (z .symbols) (d .symbol) (d .from) (d .to) × SpanFits (z .words) (z .symbols) (side .symbol) (side .from) (side .to) × Covering (z .words) (z .symbols) (c .left) (c .from) (c .to) (chartIn (now chart) (z .base)) (chartIn (now chart) count) (now covers) × SpanFits (z .words) (z .symbols) (c .left) (c .from) (c .to) ⌝ }
-    ensures { λ r. ⌜ Advanced (z .words) (z .symbols) (z .room) (c .left) (c .from) (c .to) (z .base) (concatMap (byAction (chartIn (now (chart .entry)) (z .base)) (actionFrom a) (d .symbol) (d .from) (d .to) (c .left) (c .from) (c .to) p) (barePlaces (chartIn (now (chart .entry)) (z .base)) (side .symbol) (side .from) (side .to))) (now (chart .entry)) (now (marks .entry)) count (now (chart .exit)) (now (marks .exit)) (now (covers .exit)) r ⌝ }
+    requires { ⌜ Working (z .words) (z .symbols) (z .room) (c .left) (c .from) (c .to) (now chart) (now marks) count × (z .base ≤ count)
+        × Indexed (z .words) (z .symbols) (chartIn (now chart) (z .base)) (now index) × ActionFits (actionFrom a)
+        × SpanFits (z .words) (z .symbols) (d .symbol) (d .from) (d .to) × SpanFits (z .words) (z .symbols) (side .symbol) (side .from) (side .to)
+        × Covering (z .words) (z .symbols) (c .left) (c .from) (c .to) (chartIn (now chart) (z .base)) (chartIn (now chart) count) (now covers)
+        × SpanFits (z .words) (z .symbols) (c .left) (c .from) (c .to) ⌝ }
+    ensures { λ r. ⌜ Advanced (z .words) (z .symbols) (z .room) (c .left) (c .from) (c .to) (z .base)
+        (concatMap (byAction (chartIn (now (chart .entry)) (z .base)) (actionFrom a) (d .symbol) (d .from) (d .to) (c .left) (c .from) (c .to) p)
+        (barePlaces (chartIn (now (chart .entry)) (z .base)) (side .symbol) (side .from) (side .to))) (now (chart .entry)) (now (marks .entry)) count
+        (now (chart .exit)) (now (marks .exit)) (now (covers .exit)) r ⌝ }
 {
     let at = records::index::cell_at(z.words, z.symbols, side.symbol, side.from, side.to);
     let r = records::index::range_of(index, at);
@@ -150,8 +167,13 @@ pub fn by_production(
     rule: Production,
     count: usize,
 ) -> usize
-    requires { ⌜ Working (z .words) (z .symbols) (z .room) (c .left) (c .from) (c .to) (now chart) (now marks) count × (z .base ≤ count) × Indexed (z .words) (z .symbols) (chartIn (now chart) (z .base)) (now index) × RuleFits (z .symbols) (ruleFrom rule) × (c .from < k) × (k < c .to) × (c .to ≤ z .words) × Covering (z .words) (z .symbols) (c .left) (c .from) (c .to) (chartIn (now chart) (z .base)) (chartIn (now chart) count) (now covers) × SpanFits (z .words) (z .symbols) (c .left) (c .from) (c .to) ⌝ }
-    ensures { λ r. ⌜ Advanced (z .words) (z .symbols) (z .room) (c .left) (c .from) (c .to) (z .base) (byRule (chartIn (now (chart .entry)) (z .base)) (c .left) (c .from) k (c .to) p (ruleFrom rule)) (now (chart .entry)) (now (marks .entry)) count (now (chart .exit)) (now (marks .exit)) (now (covers .exit)) r ⌝ }
+    requires { ⌜ Working (z .words) (z .symbols) (z .room) (c .left) (c .from) (c .to) (now chart) (now marks) count × (z .base ≤ count)
+        × Indexed (z .words) (z .symbols) (chartIn (now chart) (z .base)) (now index) × RuleFits (z .symbols) (ruleFrom rule) × (c .from < k)
+        × (k < c .to) × (c .to ≤ z .words) × Covering (z .words) (z .symbols) (c .left) (c .from) (c .to) (chartIn (now chart) (z .base))
+        (chartIn (now chart) count) (now covers) × SpanFits (z .words) (z .symbols) (c .left) (c .from) (c .to) ⌝ }
+    ensures { λ r. ⌜ Advanced (z .words) (z .symbols) (z .room) (c .left) (c .from) (c .to) (z .base)
+        (byRule (chartIn (now (chart .entry)) (z .base)) (c .left) (c .from) k (c .to) p (ruleFrom rule)) (now (chart .entry)) (now (marks .entry))
+        count (now (chart .exit)) (now (marks .exit)) (now (covers .exit)) r ⌝ }
 {
     let met = match rule {
         Production::Word { left: _, word: _ } => return count,
