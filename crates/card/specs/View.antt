@@ -3,7 +3,7 @@ use Prim.Native.Nat.{ℕ, _+_, _*_, _≤_, _<_}
 use mathlib.Core.Path.{_≡_}
 use mathlib.Core.Bool.{Bool, _&&_}
 use mathlib.Core.List.{List}
-use Rattle.layout.specs.Card.{headerLength, nonterminalCount, wordCount, indexCount, productionCount, within}
+use Rattle.layout.specs.Card.{mostHeader, headerLength, nonterminalCount, wordCount, indexCount, productionCount, within}
 use Rattle.layout.specs.Card.{maxNonterminals, maxWords, maxIndices, maxProductions, entryLength, productionLength}
 use Rattle.card.specs.declared.Card.{Card}
 
@@ -14,7 +14,7 @@ pub record ViewOf (card : List ℕ) (c : Card) : Type 0 where
   pub words : c .words ≡ wordCount card
   pub indices : c .indices ≡ indexCount card
   pub productions : c .productions ≡ productionCount card
-  pub shortHeader : c .header ≤ 16
+  pub shortHeader : c .header ≤ mostHeader
   pub fewNonterminals : c .nonterminals < 256
   pub fewWords : c .words < 256
   pub fewIndices : c .indices < 256

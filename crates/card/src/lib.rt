@@ -10,8 +10,8 @@ use numbers::within;
 use octets::byte;
 use octets::wide;
 ghost use mathlib.Core.Path.{_≡_};
-ghost use Prim.Native.Nat.{_≤_, _<_};
-ghost use Rattle.layout.specs.Card.{production, cardNumber};
+ghost use Prim.Native.Nat.{_+_, _*_, _≤_, _<_};
+ghost use Rattle.layout.specs.Card.{mostHeader, productionLength, production, cardNumber};
 ghost use Rattle.layout.specs.Answers.{nameNumber, namePart};
 ghost use Rattle.card.specs.View.{ViewOf, countsWithin, entryPlace, tablePlace, productionPlace};
 ghost use Rattle.card.specs.Productions.{ruleFrom, ProductionThere};
@@ -73,7 +73,7 @@ impl Card {
 
     // Where entry v starts.
     pub fn entry_at(self, v: usize) -> usize
-        requires { ⌜ (self .header ≤ 16) × (v < 256) ⌝ }
+        requires { ⌜ (self .header ≤ mostHeader) × (v < 256) ⌝ }
         ensures { λ r. ⌜ r ≡ entryPlace self v ⌝ }
     {
         self.header + Self::ENTRY * v
@@ -81,18 +81,26 @@ impl Card {
 
     // Where the productions start.
     pub fn production_table(self) -> usize
-        requires { ⌜ (self .header ≤ 16) × (self .words < 256) ⌝ }
+        requires { ⌜ (self .header ≤ mostHeader) × (self .words < 256) ⌝ }
         ensures { λ r. ⌜ r ≡ tablePlace self ⌝ }
     {
         self.entry_at(self.words)
     }
 
+    // Where production m starts in the table that starts at `table`.
+    fn production_at(table: usize, m: usize) -> usize
+        requires { ⌜ (table < 65536) × (m < 256) ⌝ }
+        ensures { λ r. ⌜ r ≡ table + productionLength * m ⌝ }
+    {
+        table + Self::PRODUCTION * m
+    }
+
     // Where the last production ends.
     fn length(self) -> usize
-        requires { ⌜ (self .header ≤ 16) × (self .words < 256) × (self .productions < 256) ⌝ }
+        requires { ⌜ (self .header ≤ mostHeader) × (self .words < 256) × (self .productions < 256) ⌝ }
         ensures { λ r. ⌜ r ≡ productionPlace self (self .productions) ⌝ }
     {
-        self.production_table() + Self::PRODUCTION * self.productions
+        Self::production_at(self.production_table(), self.productions)
     }
 
     // Production m of an accepted card whose table of productions starts at `table`.
@@ -100,7 +108,7 @@ impl Card {
         requires { ⌜ ProductionThere (now card) table m ⌝ }
         ensures { λ r. ⌜ ruleFrom r ≡ production (now (card .entry)) m ⌝ }
     {
-        let f = productions::fields_at(card, table + Self::PRODUCTION * m);
+        let f = productions::fields_at(card, Self::production_at(table, m));
         productions::production_of(f.kind, f.a, f.b, f.c, f.g)
     }
 }

@@ -93,10 +93,11 @@ fn kind_fits(card: &[u8], kind: u8, a: u8, b: u8, c: u8, g: u8) -> bool
 }
 
 fn production_fits(card: &[u8], table: usize, m: usize) -> bool
-    requires { ⌜ (table ≡ productionTable (now card)) × (productionAt (now card) m + productionLength ≤ length (now card)) ⌝ }
+    requires { ⌜ (table ≡ productionTable (now card)) × (table < 65536) × (m < 256)
+        × (productionAt (now card) m + productionLength ≤ length (now card)) ⌝ }
     ensures { λ r. ⌜ r ≡ productionFits (now (card .entry)) m ⌝ }
 {
-    let f = fields_at(card, table + Card::PRODUCTION * m);
+    let f = fields_at(card, Card::production_at(table, m));
     if f.last != 0 {
         return false;
     }

@@ -25,8 +25,8 @@ startOf (item A i j φ) = i
 abbrev endOf : Item → ℕ
 endOf (item A i j φ) = j
 
-abbrev footOf : Item → Foot
-footOf (item A i j φ) = φ
+abbrev itemFoot : Item → Foot
+itemFoot (item A i j φ) = φ
 
 -- `Goes c A i j x s pending`: at position x stands a record of A over i to j, and pending records fit its foot and the stack s.
 data Goes (c : List Record) (A i j x : ℕ) (s pending : List ℕ) : Type 0 where
@@ -61,7 +61,7 @@ earlier-below h (earlier l s) = earlier (le-trans l h) s
 
 module _ (g : List Rule) (at : ℕ → ℕ → Type 0) where
   abbrev DerivedItem : Item → Type 0
-  DerivedItem it = Derived g at (nameOf it) (startOf it) (endOf it) (footOf it)
+  DerivedItem it = Derived g at (nameOf it) (startOf it) (endOf it) (itemFoot it)
 
   -- A step whose nonterminal stands alone.
   step-yields : {p i k j : ℕ} {X : Symbol} {r : List Symbol} {ps qs : List PlanStep} → Replaces g p X r → Yields g at (firstOf r) i k ps
@@ -102,7 +102,7 @@ module _ (g : List Rule) (at : ℕ → ℕ → Type 0) (c : List Record)
 
   -- Then it gives the plan of a record that is one word longer.
   rule-yields : {m depth : ℕ} {go : ℕ → List ℕ → List PlanStep} {e : Record} {s pending : List ℕ} → Justified g at c m e
-      → Pends c (footOf (itemOf e)) s pending → endOf (itemOf e) - startOf (itemOf e) ≤ suc depth → Unfolded depth go
+      → Pends c (itemFoot (itemOf e)) s pending → endOf (itemOf e) - startOf (itemOf e) ≤ suc depth → Unfolded depth go
       → Yields g at (nonterminal (nameOf (itemOf e)) s ∷ []) (startOf (itemOf e)) (endOf (itemOf e))
       (unfoldRule c go (getElem? g (productionOf e)) e pending)
   rule-yields (byWord r a) nothingPends h below = rw (stands-getElem r) (step-yields g at (lexical r) (reads a nothing) nothing)

@@ -3,12 +3,12 @@
 use Prim.Native.Nat.{ℕ, _≤_}
 use mathlib.Core.List.{List}
 use lib.Dec.{lit≤}
-use Rattle.layout.specs.Card.{leastHeader, headerLength}
+use Rattle.layout.specs.Card.{leastHeader, mostHeader, headerLength}
 
 pub header-least : (card : List ℕ) → leastHeader ≤ headerLength card
 unfolding headerLength
 header-least card = lit≤ tt
 
-pub header-most : (card : List ℕ) → headerLength card ≤ 16
+pub header-most : (card : List ℕ) → headerLength card ≤ mostHeader
 unfolding headerLength
 header-most card = lit≤ tt

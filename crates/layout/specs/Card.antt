@@ -28,6 +28,10 @@ mark = 0x4C ∷ 0x49 ∷ 0x47 ∷ 0x31 ∷ []
 abbrev pub leastHeader : ℕ
 leastHeader = 12
 
+-- And no header has more than so many.
+abbrev pub mostHeader : ℕ
+mostHeader = 16
+
 abbrev pub nonterminalCount : List ℕ → ℕ
 nonterminalCount card = byteAt card 4
 

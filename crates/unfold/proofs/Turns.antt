@@ -34,8 +34,8 @@ startOf (item A i j φ) = i
 abbrev endOf : Item → ℕ
 endOf (item A i j φ) = j
 
-abbrev footOf : Item → Foot
-footOf (item A i j φ) = φ
+abbrev itemFoot : Item → Foot
+itemFoot (item A i j φ) = φ
 
 abbrev sideOf : Record → ℕ
 sideOf (recorded it p x y z) = x
@@ -96,7 +96,7 @@ module _ (card : List ℕ) (at : ℕ → ℕ → Bool) (chart : List ℕ) (count
         ready = record {
           held = held;
           inside = stands-below (recordAt chart) count x r;
-          pends = subst (λ (ψ : Foot). Pends (chartIn chart count) ψ s pending) (ap footOf e) ps;
+          pends = subst (λ (ψ : Foot). Pends (chartIn chart count) ψ s pending) (ap itemFoot e) ps;
         };
         name = sym (ap nameOf e);
         from = sym (ap startOf e);
@@ -118,7 +118,7 @@ module _ (card : List ℕ) (at : ℕ → ℕ → Bool) (chart : List ℕ) (count
   onwards (given (earlier l′ z)) (earlier l y) ps = record { stack = _; acts = gives; some = tt; rest = part y (awaits z ps) }
 
   turn-of : {m : ℕ} {e : Record} {s pending : List ℕ} → Justified (grammarOf card) (Holds at) (chartIn chart count) m e
-      → Pends (chartIn chart count) (footOf (itemOf e)) s pending
+      → Pends (chartIn chart count) (itemFoot (itemOf e)) s pending
       → Turn card at chart count (productionOf e) (nameOf (itemOf e)) (startOf (itemOf e)) (endOf (itemOf e)) (sideOf e)
       (dependentOf e) (continuationOf e) s pending (production card (productionOf e))
   turn-of (byWord r a) nothingPends =

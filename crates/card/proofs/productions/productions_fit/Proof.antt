@@ -27,7 +27,9 @@ loop-holds c = (search needs, below-none _)
 
 production-fits-requires : tie.Need-production-fits-requires Inv-loop μ-loop
 production-fits-requires c κs =
-    (c .before .before .production-table .ensures ∙ view-table (c .before .before .before .before .pre .0), omega arith)
+    let view = c .before .before .before .before .pre .0 in
+    let table = c .before .before .production-table .ensures ∙ view-table view in
+    (table, omega (arith, c .before .before .production-table .ensures, view .shortHeader, view .fewWords), omega (arith, view .fewProductions), omega arith)
 
 returns : tie.Need-returns Inv-loop μ-loop
 returns c =
