@@ -1,5 +1,6 @@
 // Give: the feet of the continuations of each dependent that has the index.
 use crate::hand::Side;
+use card::Card;
 use records::add::Sizes;
 use records::record::Cell;
 use records::record::Origin;
@@ -107,7 +108,7 @@ fn give_one(
     if given != g {
         return count;
     }
-    let cell = records::record::number_at(chart, y) / 8;
+    let cell = records::record::number_at(chart, y) / Card::MAX_INDICES;
     let own = crate::hand::own_at(z, c);
     if records::cover::is_covered(covers, own, cell) {
         return count;

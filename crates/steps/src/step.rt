@@ -6,6 +6,7 @@ use crate::element::first_at;
 use crate::element::last_at;
 use crate::hand::Side;
 use card::Action;
+use card::Card;
 use card::Production;
 use octets::wide;
 use records::add::Sizes;
@@ -87,7 +88,7 @@ fn by_action(
                 from: d.from as u8,
                 to: d.to as u8,
             };
-            let number = 8 * at + wide(g) - 1;
+            let number = Card::MAX_INDICES * at + wide(g) - 1;
             take_one(chart, marks, z, c, s, f, number, r.from, r.to, count)
         }
         Action::Keep => crate::keep::keep_all(
