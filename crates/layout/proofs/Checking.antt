@@ -4,10 +4,10 @@ use Prim.Native.Nat.{ℕ, _*_, _-_}
 use native.Mathlib.Omega.{arith}
 use mathlib.Core.Path.{_≡_, refl, sym, _∙_, ap, subst}
 use mathlib.Core.Bool.{Bool, true, false, false≢true}
-use mathlib.Core.List.{List, [], _∷_}
+use mathlib.Core.List.{List, [], _∷_, _++_}
 use mathlib.Core.Option.{Option, none, some}
 use lib.Dec.{eqb}
-use lib.ListN.{length}
+use lib.ListN.{length, drop}
 use borrow.Author.Tests.{eqb-true, eq-eqb}
 use Rattle.grammar.specs.Input.{Holds}
 use Rattle.grammar.specs.Plan.{PlanStep, planStep, LeftmostDerivation, passes}
@@ -18,7 +18,7 @@ use Rattle.grammar.proofs.Existence.{plan-derivation}
 use Rattle.layout.specs.Card.{grammarOf}
 use Rattle.layout.specs.Line.{numbersOf}
 use Rattle.layout.specs.Steps.{planBytes, stepsOf, andStep, planSteps}
-use Rattle.layout.specs.Answers.{inputNumber, wordsIn, lineTest, Derives, HasDerivation, planPasses, checkNumber}
+use Rattle.layout.specs.Answers.{inputNumber, wordsIn, lineTest, Derives, HasDerivation, planPasses, checkNumber, PlanWritten}
 use Rattle.layout.proofs.Accepting.{check-accepts, check-of-plan}
 use Rattle.layout.proofs.CardLaws.{card-one-sided}
 use Rattle.layout.proofs.Reading.{count-numbers}
@@ -69,3 +69,15 @@ pub derives-derivation : (card line : List ℕ) {plan : List PlanStep} → Deriv
 derives-derivation card line {plan} d =
     plan-derivation (grammarOf card) (numbersOf card line)
     (subst (λ (n : ℕ). LeftmostDerivation (grammarOf card) (Holds (lineTest card line)) n plan) (sym (count-numbers card line)) d)
+
+-- A leftmost derivation that is written at the start of a room is what Read promises.
+pub plan-written : (card line : List ℕ) {before after : List ℕ} (plan : List PlanStep) → inputNumber card line ≡ 0
+    → Derives card line plan → after ≡ planBytes plan ++ drop (4 * length plan) before → PlanWritten card line before after
+plan-written card line plan e d w =
+    record {
+      plan = plan;
+      derives = d;
+      steps = derives-length card line d;
+      passes = check-complete card line plan e d;
+      written = w;
+    }

@@ -98,13 +98,6 @@ ChartAfter card line whole before after =
 ChartAfter card line zeroed before after = after ≡ replicate (length before) 0
 ChartAfter card line untouched before after = after ≡ before
 
--- The plan room after Read: a leftmost derivation of the line where it was read, and untouched otherwise.
-abbrev pub PlanAfter : List ℕ → List ℕ → Bool → List ℕ → List ℕ → Type 0
-PlanAfter card line true before after =
-    (plan : List PlanStep) × Derives card line plan
-    × (after ≡ planBytes plan ++ drop (4 * length plan) before)
-PlanAfter card line false before after = after ≡ before
-
 -- Check.
 abbrev pub planPasses : List ℕ → List ℕ → Option (List PlanStep) → Bool
 planPasses card line none = false
@@ -112,6 +105,19 @@ planPasses card line (some plan) = passes (grammarOf card) (lineTest card line) 
 
 abbrev pub checkNumber : List ℕ → List ℕ → List ℕ → ℕ
 checkNumber card line plan = firstRefusal (inputRefusals card line ++ (unless (planPasses card line (stepsOf plan)) 34 ∷ []))
+
+-- The plan room after Read. Where the line was read: a leftmost derivation of it, of 2n − 1 steps, which passes Check under the same card
+-- and line, and past it what was there; which derivation is free. Otherwise the room is untouched.
+pub record PlanWritten (card line before after : List ℕ) : Type 0 where
+  pub plan : List PlanStep
+  pub derives : Derives card line plan
+  pub steps : length plan ≡ planSteps (wordsIn line)
+  pub passes : checkNumber card line (planBytes plan) ≡ 0
+  pub written : after ≡ planBytes plan ++ drop (4 * length plan) before
+
+abbrev pub PlanAfter : List ℕ → List ℕ → Bool → List ℕ → List ℕ → Type 0
+PlanAfter card line true before after = PlanWritten card line before after
+PlanAfter card line false before after = after ≡ before
 
 -- Pairs: the pairs of a plan that passes, and 33 where the room is too short for them.
 pub record PairsAnswer : Type 0 where

@@ -17,7 +17,7 @@ use Rattle.grammar.specs.Pairs.{placeIn, Pair, pair, pairsOf}
 use Rattle.layout.specs.Card.{grammarOf}
 use Rattle.layout.specs.Records.{capacity}
 use Rattle.layout.specs.Steps.{planBytes, pairsBytes, planSteps, planRoom, stepsOf}
-use Rattle.layout.specs.Answers.{inputNumber, wordsIn, derivable, refusal, found, ReadAnswer, readAnswer, planPairs, PairsAnswer, pairsAnswer, checkNumber, PlanAfter}
+use Rattle.layout.specs.Answers.{inputNumber, wordsIn, derivable, refusal, found, ReadAnswer, readAnswer, planPairs, PairsAnswer, pairsAnswer, checkNumber, PlanAfter, PlanWritten}
 use Rattle.layout.specs.Answers.{Derives}
 use Rattle.layout.proofs.Checking.{steps-bytes, check-complete, derives-length}
 use Rattle.layout.proofs.Packing.{read-fits, pairs-fit}
@@ -154,8 +154,8 @@ module _ {card line oldChart oldPlan newChart newPlan : List ℕ} {r : Answer} (
 
   -- A reading.
   module _ (z : r .number ≡ 0) where
-    written : PlanAfter card line true oldPlan newPlan
-    written = subst (λ (b : Bool). PlanAfter card line b oldPlan newPlan) (eq-eqb (r .number) 0 z) (x .plan)
+    planned : PlanWritten card line oldPlan newPlan
+    planned = subst (λ (b : Bool). PlanAfter card line b oldPlan newPlan) (eq-eqb (r .number) 0 z) (x .plan)
 
     plan-taken : (plan : List PlanStep) → Derives card line plan → newPlan ≡ planBytes plan ++ drop (4 * length plan) oldPlan
         → take (4 * r .steps) newPlan ≡ planBytes plan
@@ -167,13 +167,17 @@ module _ {card line oldChart oldPlan newChart newPlan : List ℕ} {r : Answer} (
 
     pub plan-length : 4 * r .steps ≡ length (take (4 * r .steps) newPlan)
     plan-length =
-        let (plan, d, e) = written in
+        let plan = planned .plan in
+        let d = planned .derives in
+        let e = planned .written in
         let s = line-read card line (sym number-is ∙ z) .1 in
         omega (arith, steps-length plan, derives-length card line d, steps-is, s, ap length (plan-taken plan d e))
 
     shows-plan : LineText card line (readLine (r .words) (r .items) ++ planText card line (take (4 * r .steps) newPlan))
     shows-plan =
-        let (plan, d, e) = written in
+        let plan = planned .plan in
+        let d = planned .derives in
+        let e = planned .written in
         let i = line-read card line (sym number-is ∙ z) .0 in
         subst (λ (b : Bool). TextIf b card line (readLine (r .words) (r .items) ++ planText card line (take (4 * r .steps) newPlan)))
         (sym (eq-eqb (lineAnswer card line .number) 0 (sym number-is ∙ z))) (

@@ -12,6 +12,7 @@ use Rattle.layout.specs.Steps.{planRoom}
 use Rattle.layout.specs.Answers.{inputNumber, wordsIn, lineTest, derivable, startFound, ReadAnswer, refusal, found, readAnswer}
 use Rattle.layout.specs.Answers.{ChartState, chartState, ChartAfter, PlanAfter}
 use Rattle.layout.proofs.Accepting.{accepted-line, input-small, input-of-card}
+use Rattle.layout.proofs.Checking.{plan-written}
 use Rattle.layout.proofs.Reading.{read-derivation, no-reading, derivation-read}
 use Rattle.line.specs.declared.Accepted.{Accepted}
 use Rattle.line.specs.Accepted.{Accepts}
@@ -69,7 +70,8 @@ module _ (card line oldChart oldPlan newChart newPlan : List ℕ) (r : Answer) (
   found-ends (At m) f e plan =
       reads (found true (wordsIn line) count) e
       (answer-due true (start-there card line oldChart newChart count card-accepted built m f))
-      (built .0, built .1, built .4) (plan .steps, plan .derives, plan .written)
+      (built .0, built .1, built .4)
+      (plan-written card line (plan .steps) input (plan .derives) (plan .written))
   found-ends Missing f e plan =
       reads (found false (wordsIn line) count) e
       (answer-due false (start-missing card line oldChart newChart count card-accepted built f))
