@@ -19,3 +19,4 @@ pub mod PlanRuns
 pub mod PairsLaws
 pub mod PairsInside
 pub mod PairsCount
+pub mod EveryPlan
