@@ -32,6 +32,7 @@ use Rattle.chart.proofs.SetLaws.{zero-at}
 use Rattle.chart.proofs.RowLaws.{rows-none}
 use Rattle.chart.proofs.FillLaws.{start-between}
 use Rattle.chart.proofs.CardFits.{lefts-below}
+use Rattle.chart.proofs.BuiltLaws.{too-many, fitting}
 
 all-zero : (l : List ℕ) → l ≡ replicate (length l) 0 → (k : ℕ) → getD l k 0 ≡ 0
 all-zero l e k = ap (λ (m : List ℕ). getD m k 0) e ∙ zero-at (length l) k
@@ -134,13 +135,13 @@ module _ {card places old new : List ℕ} {n room after : ℕ} (b : Buildable ca
     (c : Closed n (nonterminalCount card) room (build room (grammarOf card) (wordTest places) (nonterminalCount card) n) old new after) where
   pub built-over : {cleared : List ℕ} → room < after → cleared ≡ replicate (length new) 0
       → BuiltRoom card (wordTest places) n TooMany old cleared
-  built-over h e = (
-    subst (λ (k : ℕ). k < length (items (grammarOf card) (wordTest places) n)) own (over-room card places n room b c h),
-    e ∙ ap (λ (k : ℕ). replicate k 0) (c .sameRoom),
-  )
+  built-over h e =
+      too-many card (wordTest places) n
+      (subst (λ (k : ℕ). k < length (items (grammarOf card) (wordTest places) n)) own (over-room card places n room b c h))
+      (e ∙ ap (λ (k : ℕ). replicate k 0) (c .sameRoom))
 
   pub built-within : {cleared : List ℕ} → after ≤ room → cleared ≡ numbersCleared after new
       → BuiltRoom card (wordTest places) n (Chart after) old cleared
   built-within h e =
       let (k, chart, same, fits, written) = within-room card places n room b c h in
-      (k, chart, same, subst (λ (m : ℕ). length k ≤ m) own fits, e ∙ written)
+      fitting card (wordTest places) n k (b .below) chart same (subst (λ (m : ℕ). length k ≤ m) own fits) (e ∙ written)

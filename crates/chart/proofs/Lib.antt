@@ -6,4 +6,5 @@ pub mod RowLaws
 pub mod FillLaws
 pub mod FillCells
 pub mod FillSpans
+pub mod BuiltLaws
 pub mod BuiltExact

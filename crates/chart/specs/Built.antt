@@ -1,15 +1,15 @@
 -- What the builder asks and promises.
 use Prim.Native.Nat.{ℕ, _+_, _*_, _≤_, _<_}
 use mathlib.Core.Path.{_≡_}
-use mathlib.Core.Bool.{Bool}
-use mathlib.Core.List.{List, _++_}
-use lib.ListN.{length, drop, replicate}
+use mathlib.Core.Bool.{Bool, cond}
+use mathlib.Core.List.{List}
+use lib.ListN.{length, replicate}
 use Rattle.grammar.specs.Input.{Holds, Below}
 use Rattle.grammar.specs.ItemList.{items}
-use Rattle.grammar.specs.Chart.{Record, IsChart}
 use Rattle.layout.specs.Card.{cardNumber, grammarOf}
 use Rattle.layout.specs.Line.{mostWords}
-use Rattle.layout.specs.Records.{recordLength, chartBytes, capacity}
+use Rattle.layout.specs.Records.{recordLength}
+use Rattle.layout.specs.Answers.{outnumber, chartState, ChartRoom}
 use Rattle.places.specs.Places.{wordTest}
 use Rattle.records.specs.Index.{spans}
 use Rattle.chart.specs.declared.Built.{Built}
@@ -36,11 +36,20 @@ pub record TablesLent (n N : ℕ) (marks index sets covers : List ℕ) : Type 0 
   pub setsThere : 2 * spans n + 2 * (n + 1) ≤ length sets
   pub coversThere : spans n * N ≤ length covers
 
--- The room afterwards: a chart, and then what was there; or, where the items outnumber what it holds, zeros. Which chart is free.
--- The line is read through a test of the words at its places.
-abbrev pub BuiltRoom : List ℕ → (ℕ → ℕ → Bool) → ℕ → Built → List ℕ → List ℕ → Type 0
-BuiltRoom card at n (Chart count) old new =
-    (c : List Record) × IsChart (grammarOf card) (Holds at) c × (count ≡ length c) × (length c ≤ capacity (length old))
-    × (new ≡ chartBytes c ++ drop (recordLength * length c) old)
-BuiltRoom card at n TooMany old new =
-    (capacity (length old) < length (items (grammarOf card) at n)) × (new ≡ replicate (length old) 0)
+-- Document 01's number and count of items for each answer. Whether a line with a chart is read or has no reading, 0 or 25, is seen only when
+-- the start is looked for in it; till then its number is 0.
+abbrev pub builtNumber : Built → ℕ
+builtNumber (Chart count) = 0
+builtNumber TooMany = 31
+
+abbrev pub builtItems : Built → ℕ
+builtItems (Chart count) = count
+builtItems TooMany = 0
+
+-- 31 exactly where the derivable items outnumber what the room holds, and else how many they are; the room is as this number has it. The
+-- line is read through a test of the words at its places.
+pub record BuiltRoom (card : List ℕ) (at : ℕ → ℕ → Bool) (n : ℕ) (b : Built) (old new : List ℕ) : Type 0 where
+  pub number : builtNumber b ≡ cond (outnumber (items (grammarOf card) at n) (length old)) 31 0
+  pub count : builtItems b
+      ≡ cond (outnumber (items (grammarOf card) at n) (length old)) 0 (length (items (grammarOf card) at n))
+  pub room : ChartRoom card at (chartState (builtNumber b)) old new

@@ -12,7 +12,7 @@ use Rattle.grammar.specs.Lists.{Stands, here, there}
 use Rattle.layout.specs.Bytes.{number16At, allBytes}
 use Rattle.layout.specs.Refusals.{Refusal, unless, firstRefusal}
 use Rattle.layout.specs.Card.{nonterminalCount, wordCount, indexCount, productionCount, wordTable, productionTable, cardLength}
-use Rattle.layout.specs.Card.{entryAt, entryLength, productionAt, productionLength}
+use Rattle.layout.specs.Card.{headerLength, mostCardBytes, entryAt, entryLength, productionAt, productionLength}
 use Rattle.layout.specs.Card.{maxNonterminals, maxWords, maxIndices, maxProductions, within, cardRefusals, cardNumber}
 use Rattle.layout.specs.Card.{markFits, countsFit, lengthsFit, entriesFit, entriesDiffer, productionsFit}
 use Rattle.layout.specs.Line.{wordsOf, isLineByte, allKnown, lineRefusals, lineNumber, mostWords}
@@ -82,6 +82,12 @@ length-fits card e =
 
 pub accepted-length : (card : List ℕ) → cardNumber card ≡ 0 → length card ≡ cardLength card
 accepted-length card z = length-fits card (accepted-card card z .measured)
+
+-- At most 780 bytes, since each count has its limit.
+pub accepted-most : (card : List ℕ) → cardNumber card ≡ 0 → length card ≤ mostCardBytes
+unfolding headerLength
+accepted-most card z =
+    let few = accepted-counts card z in omega (arith, accepted-length card z, few .fewWords, few .fewProductions)
 
 -- Its entries and productions lie within it.
 pub entry-inside : (card : List ℕ) (v : ℕ) → cardNumber card ≡ 0 → v < wordCount card → entryAt card v + entryLength ≤ length card

@@ -3,6 +3,9 @@ pub mod RefusalLaws
 pub mod ViewLaws
 pub mod Accepting
 pub mod CardLaws
+pub mod CountedLaws
+pub mod RuleLaws
+pub mod Feet
 pub mod Reading
 pub mod Checking
 pub mod Packing

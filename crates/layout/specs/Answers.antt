@@ -53,10 +53,13 @@ abbrev pub found : Bool → ℕ → ℕ → ReadAnswer
 found true n count = record { number = 0; words = n; items = count; steps = planSteps n }
 found false n count = record { number = 25; words = n; items = count; steps = 0 }
 
--- With every item at hand: 31 where the room does not hold them all, and only then what was found.
+-- With every item at hand: 31 where they outnumber what the room holds, and only then what was found.
+abbrev pub outnumber : List Item → ℕ → Bool
+outnumber all chartRoom = ltb (capacity chartRoom) (length all)
+
 abbrev pub chartAnswer : ℕ → ℕ → List Item → ReadAnswer
 chartAnswer n chartRoom all =
-    cond (ltb (capacity chartRoom) (length all)) (refusal 31) (found (among (item 0 0 n bare) all) n (length all))
+    cond (outnumber all chartRoom) (refusal 31) (found (among (item 0 0 n bare) all) n (length all))
 
 abbrev pub readAnswer : List ℕ → List ℕ → ℕ → ℕ → ReadAnswer
 readAnswer card line chartRoom room =
@@ -91,12 +94,15 @@ pub data ChartState : Type 0 where
 abbrev pub chartState : ℕ → ChartState
 chartState number = cond (eqb number 0 || eqb number 25) whole (cond (eqb number 31) zeroed untouched)
 
+-- For any test of the words at their places; which chart is free.
+abbrev pub ChartRoom : List ℕ → (ℕ → ℕ → Bool) → ChartState → List ℕ → List ℕ → Type 0
+ChartRoom card at whole before after =
+    (c : List Record) × IsChart (grammarOf card) (Holds at) c × (after ≡ chartBytes c ++ drop (recordLength * length c) before)
+ChartRoom card at zeroed before after = after ≡ replicate (length before) 0
+ChartRoom card at untouched before after = after ≡ before
+
 abbrev pub ChartAfter : List ℕ → List ℕ → ChartState → List ℕ → List ℕ → Type 0
-ChartAfter card line whole before after =
-    (c : List Record) × IsChart (grammarOf card) (Holds (lineTest card line)) c
-    × (after ≡ chartBytes c ++ drop (recordLength * length c) before)
-ChartAfter card line zeroed before after = after ≡ replicate (length before) 0
-ChartAfter card line untouched before after = after ≡ before
+ChartAfter card line state before after = ChartRoom card (lineTest card line) state before after
 
 -- Check.
 abbrev pub planPasses : List ℕ → List ℕ → Option (List PlanStep) → Bool

@@ -70,6 +70,10 @@ productionAt card m = productionTable card + productionLength * m
 abbrev pub cardLength : List ℕ → ℕ
 cardLength card = productionAt card (productionCount card)
 
+-- The length of the largest card.
+abbrev pub mostCardBytes : ℕ
+mostCardBytes = 780
+
 -- A word entry: a length byte, the spelling, and zeros up to 12 bytes.
 abbrev pub mostLetters : ℕ
 mostLetters = 11

@@ -1,6 +1,7 @@
 pub mod Bytes
 pub mod Refusals
 pub mod Card
+pub mod Rules
 pub mod Line
 pub mod Records
 pub mod Steps

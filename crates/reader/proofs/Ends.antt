@@ -21,12 +21,13 @@ use Rattle.line.proofs.AcceptedLaws.{answered-number, answered-line, answered-c
 use Rattle.chart.specs.declared.Built.{Built}
 use Rattle.chart.specs.declared.Built.the-variants.{Chart, TooMany}
 use Rattle.chart.specs.Built.{BuiltRoom}
-use Rattle.unfold.specs.Unfold.{Held, Found}
+use Rattle.unfold.specs.Unfold.{Held, startNumber, startSteps, Found}
 use Rattle.unfold.specs.declared.Start.{Start}
 use Rattle.unfold.specs.declared.Start.the-variants.{At, Missing}
 use Rattle.reader.specs.declared.read.Answer.{Answer}
 use Rattle.reader.specs.Read.{answerFrom, Reads}
-use Rattle.reader.specs.Ended.{Refuses, Charted, isThere, RoomAfter, PlanOf}
+use Rattle.chart.proofs.BuiltLaws.{built-more}
+use Rattle.reader.specs.Ended.{Refuses, Charted, RoomAfter, PlanOf}
 use Rattle.reader.proofs.Accepting.{count-within}
 use Rattle.reader.proofs.Answers.{answer-refused, answer-short, answer-over, answer-found, no-chart}
 use Rattle.reader.proofs.Starts.{held, counts-items, items-fit, start-there, start-missing}
@@ -64,18 +65,18 @@ module _ (card line oldChart oldPlan newChart newPlan : List ℕ) (r : Answer) (
       ∙ ap (found b (wordsIn line)) (sym (counts-items card line oldChart newChart count card-accepted built)))
 
   found-ends : (start : Start) → Found newChart count (wordsIn line) start
-      → answerFrom r ≡ found (isThere start) (wordsIn line) count
+      → answerFrom r ≡ record { number = startNumber start; words = wordsIn line; items = count; steps = startSteps (wordsIn line) start }
       → RoomAfter card (lineTest card line) (wordsIn line) start oldPlan newPlan
       → Reads card line oldChart oldPlan newChart newPlan r
   found-ends (At m) f e plan =
       reads (found true (wordsIn line) count) e
       (answer-due true (start-there card line oldChart newChart count card-accepted built m f))
-      (built .0, built .1, built .4)
+      (built .room)
       (plan-written card line (plan .steps) input (plan .derives) (plan .written))
   found-ends Missing f e plan =
       reads (found false (wordsIn line) count) e
       (answer-due false (start-missing card line oldChart newChart count card-accepted built f))
-      (built .0, built .1, built .4) plan
+      (built .room) plan
 
 -- A refusal of card or line.
 pub ends-input : (card line oldChart oldPlan : List ℕ) {number : ℕ} {r : Answer} → number ≡ inputNumber card line → (number ≡ 0 → ⊥)
@@ -121,9 +122,11 @@ module _ (card line oldChart oldPlan : List ℕ) (s : Accepted) (x : Accepts car
           → BuiltRoom card (wordTest (s .places)) (s .count) b oldChart newChart → Refuses 31 r
           → Reads card line oldChart oldPlan newChart oldPlan r
       ends-over b over made e =
-          let (more, zeros) = line-built b TooMany over made in
+          let full = line-built b TooMany over made in
           reads (refusal 31) e
-          (answer-over card line (length oldChart) (length oldPlan) (answered-number x accepted) room-enough more) zeros refl
+          (answer-over card line (length oldChart) (length oldPlan) (answered-number x accepted) room-enough
+          (built-more card (lineTest card line) (wordsIn line) full))
+          (full .room) refl
 
       module _ (b : Built) (count : ℕ) (fits : b ≡ Chart count)
           (made : BuiltRoom card (wordTest (s .places)) (s .count) b oldChart newChart) where

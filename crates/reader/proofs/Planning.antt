@@ -12,7 +12,7 @@ module _ {card chart : List ℕ} {n count : ℕ} {start : Start} (searched : Fou
   pub start-asked : {plan : List ℕ} {m : ℕ} → Charted card chart n count plan → start ≡ At m → Unfoldable card chart count m n plan
   start-asked h e =
       let f = subst (Found chart count n) e searched in
-      record { accepted = h .accepted; at = h .at; held = h .held; inside = f .0; whole = f .1; room = h .room; short = h .short }
+      record { accepted = h .accepted; at = h .at; held = h .held; inside = f .place .0; whole = f .place .1; room = h .room; short = h .short }
 
   pub start-planned : {old new : List ℕ} {m : ℕ} → start ≡ At m
       → Plans card chart count n old new

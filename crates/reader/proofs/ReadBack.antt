@@ -9,11 +9,12 @@ use lib.Seq.{take-at, drop-at}
 use Rattle.grammar.specs.Lists.{here, there}
 use Rattle.grammar.specs.Items.{bare, foot}
 use Rattle.grammar.specs.ItemList.{item}
-use Rattle.grammar.specs.Chart.{Record, recorded}
+use Rattle.grammar.specs.Chart.{Record, recorded, IsChart}
+use Rattle.layout.specs.Card.{cardNumber, grammarOf}
 use Rattle.layout.specs.Bytes.{counted}
 use Rattle.layout.specs.Records.{recordBytes, chartBytes, recordAt, chartIn}
 use Rattle.records.proofs.RoomLaws.{written, written-record, record-bytes-length}
-use Rattle.reader.proofs.Feet.{Readable, footIn, FeetReadable}
+use Rattle.reader.proofs.Feet.{Readable, footIn, FeetReadable, chart-feet}
 
 record-written : (bytes : List ℕ) (m : ℕ) (r : Record) → 16 * m + 16 ≤ length bytes → Readable (footIn r)
     → recordAt (written bytes m r) m ≡ r
@@ -52,5 +53,10 @@ records-back before after m (r ∷ c) e f =
     (ap (λ (b : List ℕ). map (recordAt b) (counted (suc m) (length c))) (inner ∙ split before others m r e)
     ∙ records-back (before ++ recordBytes r) after (suc m) c long (λ k x s. f (suc k) x (there s)))
 
-pub chart-back : (c : List Record) (after : List ℕ) → FeetReadable c → chartIn (chartBytes c ++ after) (length c) ≡ c
+chart-back : (c : List Record) (after : List ℕ) → FeetReadable c → chartIn (chartBytes c ++ after) (length c) ≡ c
 chart-back c after f = records-back [] after 0 c refl f
+
+-- So the room of a chart, which Read leaves with 0 and 25, is read back as that chart, whatever stands behind it.
+pub chart-read-back : (card : List ℕ) → cardNumber card ≡ 0 → {at : ℕ → ℕ → Type 0} (c : List Record) (after : List ℕ)
+    → IsChart (grammarOf card) at c → chartIn (chartBytes c ++ after) (length c) ≡ c
+chart-read-back card accepted c after chart = chart-back c after (chart-feet card accepted c (chart .justified))

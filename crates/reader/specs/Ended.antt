@@ -2,13 +2,13 @@
 -- the plan of the item of the start over all words where the chart has it, and an untouched room where it has not.
 use Prim.Native.Nat.{ℕ, _≤_}
 use mathlib.Core.Path.{_≡_}
-use mathlib.Core.Bool.{Bool, true, false}
+use mathlib.Core.Bool.{Bool}
 use mathlib.Core.List.{List}
 use lib.ListN.{length}
 use Rattle.layout.specs.Card.{cardNumber}
 use Rattle.layout.specs.Steps.{planRoom}
-use Rattle.layout.specs.Answers.{refusal, found}
-use Rattle.unfold.specs.Unfold.{Held, Planned, Found}
+use Rattle.layout.specs.Answers.{refusal}
+use Rattle.unfold.specs.Unfold.{Held, Planned, startNumber, startSteps, Found}
 use Rattle.unfold.specs.declared.Start.{Start}
 use Rattle.unfold.specs.declared.Start.the-variants.{At, Missing}
 use Rattle.reader.specs.Read.{answerFrom}
@@ -26,10 +26,6 @@ pub record Charted (card chart : List ℕ) (n count : ℕ) (plan : List ℕ) : T
   pub short : n ≤ 24
   pub room : planRoom n ≤ length plan
 
-abbrev pub isThere : Start → Bool
-isThere (At m) = true
-isThere Missing = false
-
 abbrev pub RoomAfter : List ℕ → (ℕ → ℕ → Bool) → ℕ → Start → List ℕ → List ℕ → Type 0
 RoomAfter card at n (At m) old new = Planned card at n old new
 RoomAfter card at n Missing old new = new ≡ old
@@ -38,5 +34,5 @@ RoomAfter card at n Missing old new = new ≡ old
 pub record PlanOf (card chart : List ℕ) (n count : ℕ) (old new : List ℕ) (r : Answer) : Type 0 where
   pub start : Start
   pub searched : Found chart count n start
-  pub answer : answerFrom r ≡ found (isThere start) n count
+  pub answer : answerFrom r ≡ record { number = startNumber start; words = n; items = count; steps = startSteps n start }
   pub plan : (at : ℕ → ℕ → Bool) → Held card at chart count → RoomAfter card at n start old new

@@ -1,19 +1,12 @@
--- What the deduction steps ask of their parts: nonterminals, words and indices that are counted.
-use Prim.Native.Nat.{ℕ, _≤_, _<_}
-use mathlib.Core.List.{List, [], _∷_}
-use Rattle.grammar.specs.Rewriting.{Rule, Lexical, Spine, Action, Take, Keep, Give}
+-- What the deduction steps ask of their parts: an action and a rule whose words and indices are within a card's limits, and whose
+-- nonterminals are counted.
+use Prim.Native.Nat.{ℕ}
+use Rattle.grammar.specs.Rewriting.{Rule, Action}
 use Rattle.layout.specs.Card.{maxWords, maxIndices}
+use Rattle.layout.specs.Rules.{ActionCounted, RuleCounted}
 
--- An action and a rule whose parts are counted.
 abbrev pub ActionFits : Action → Type 0
-ActionFits (Take γ) = (1 ≤ γ) × (γ ≤ maxIndices)
-ActionFits Keep = Unit {0}
-ActionFits (Give γ) = (1 ≤ γ) × (γ ≤ maxIndices)
-
-abbrev pub SymbolsFit : ℕ → List ℕ → Type 0
-SymbolsFit N [] = Unit {0}
-SymbolsFit N (B ∷ Bs) = (B < N) × SymbolsFit N Bs
+ActionFits a = ActionCounted maxIndices a
 
 abbrev pub RuleFits : ℕ → Rule → Type 0
-RuleFits N (Lexical A w) = (A < N) × (w < maxWords)
-RuleFits N (Spine A a before D after) = (A < N) × ActionFits a × SymbolsFit N before × (D < N) × SymbolsFit N after
+RuleFits N r = RuleCounted N maxWords maxIndices r

@@ -1,6 +1,5 @@
 pub mod Writing
 pub mod Waiting
-pub mod Places
 pub mod Turns
 pub mod Spines
 pub mod Opening

@@ -24,7 +24,7 @@ use Rattle.unfold.specs.declared.Rest.{Rest}
 use Rattle.unfold.specs.Spine.{nameAt, fromAt, toAt, lengthAt, ruleAt, NodeOf, waiting, Wrote, Ready, Asked, Unfolded}
 use Rattle.unfold.proofs.Writing.{plan-bytes, plan-join, wrote-length, wrote-then}
 use Rattle.unfold.proofs.Waiting.{waiting-length}
-use Rattle.unfold.proofs.Places.{table-stands}
+use Rattle.layout.proofs.CountedLaws.{table-stands}
 use Rattle.unfold.proofs.Turns.{Part, Parts, Takes, Turn, ofWord, ofFirst, ofLast, step-yields, turn}
 
 -- As deep as the stack.

@@ -3,15 +3,20 @@
 use Prim.Native.Nat.{ℕ, _+_, _*_, _-_, _≤_, _<_}
 use native.Mathlib.Omega.{arith}
 use native.Mathlib.Decide.{ℕ-discrete}
-use mathlib.Core.Path.{_≡_, subst}
-use mathlib.Core.Bool.{Bool}
-use mathlib.Core.List.{List}
+use mathlib.Core.Path.{_≡_, refl, sym, _∙_, ap, subst}
+use mathlib.Core.Bool.{Bool, true, false}
+use mathlib.Core.List.{List, map, List·Memᴰ}
 use borrow.Author.Tests.{eq-eqb, ne-eqb}
 use Rattle.grammar.specs.Items.{bare, foot}
-use Rattle.grammar.specs.ItemList.{item}
+use Rattle.grammar.specs.ItemList.{Item, item}
 use Rattle.grammar.specs.Chart.{itemOf}
 use Rattle.layout.specs.Bytes.{byteAt}
-use Rattle.layout.specs.Records.{recordAt, asFoot, footThere}
+use Rattle.grammar.proofs.ListLaws.{in-map, map-in, in-stands, stands-in}
+use Rattle.grammar.proofs.ItemListExact.{among-true, among-mem}
+use Rattle.layout.specs.Records.{recordAt, chartIn, asFoot, footThere}
+use Rattle.layout.proofs.CountedLaws.{table-stands, stands-below, stands-there}
+use Rattle.unfold.specs.declared.Start.the-variants.{At, Missing}
+use Rattle.unfold.specs.Unfold.{startStands, Found}
 use Rattle.unfold.specs.Spine.{nameAt, fromAt, toAt, IsStart}
 
 foot-bare : (γ B p q : ℕ) → asFoot γ B p q ≡ bare → γ ≡ 0
@@ -65,3 +70,29 @@ passed-more {chart} {count} {n} {m} p h this =
         | no ne ↦ p .others k (omega arith) b e
       ];
     }
+
+-- What the search answers: the item stands among the records where one of them has it, and does not where none has.
+module _ (chart : List ℕ) (count n : ℕ) where
+  pub stands-among : (m : ℕ) → m < count → itemOf (recordAt chart m) ≡ item 0 0 n bare → startStands chart count n ≡ true
+  stands-among m h e =
+      among-mem (subst (λ (x : Item). List·Memᴰ x (map itemOf (chartIn chart count))) e
+      (map-in itemOf (stands-in (table-stands (recordAt chart) h))))
+
+  stands-somewhere : startStands chart count n ≡ true → (m : ℕ) × (m < count) × (itemOf (recordAt chart m) ≡ item 0 0 n bare)
+  stands-somewhere e =
+      let (r, k, eq) = in-map itemOf (chartIn chart count) (among-true (item 0 0 n bare) (map itemOf (chartIn chart count)) e) in
+      let (m, s) = in-stands k in
+      (m, stands-below (recordAt chart) count m s, ap itemOf (sym (stands-there (recordAt chart) count m s)) ∙ sym eq)
+
+  pub found-at : {m : ℕ} → m < count → itemOf (recordAt chart m) ≡ item 0 0 n bare → Found chart count n (At m)
+  found-at {m} h e = record { number = rw (stands-among m h e); place = (h, e) }
+
+  pub found-nowhere : ((m : ℕ) → m < count → itemOf (recordAt chart m) ≡ item 0 0 n bare → ⊥) → Found chart count n Missing
+  found-nowhere none = record { number = rw (decided (startStands chart count n) refutes); place = tt }
+    where
+      refutes : startStands chart count n ≡ true → ⊥
+      refutes e = let (m, h, eq) = stands-somewhere e in none m h eq
+
+      decided : (b : Bool) → (b ≡ true → ⊥) → b ≡ false
+      decided true h = absurd (h refl)
+      decided false h = refl

@@ -22,7 +22,7 @@ use Rattle.layout.specs.Card.{production, productionCount, grammarOf}
 use Rattle.layout.specs.Records.{recordAt, chartIn}
 use Rattle.unfold.specs.Unfold.{Held}
 use Rattle.unfold.specs.Spine.{nameAt, fromAt, toAt, ruleAt, Ready}
-use Rattle.unfold.proofs.Places.{table-stands, stands-below, stands-there, rule-there}
+use Rattle.layout.proofs.CountedLaws.{table-stands, stands-below, stands-there, rule-there}
 
 -- The parts of an item and of a record.
 abbrev nameOf : Item → ℕ

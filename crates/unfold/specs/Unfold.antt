@@ -2,18 +2,18 @@
 -- through a test: `at i w`, is the word at place i word number w?
 use Prim.Native.Nat.{ℕ, _+_, _*_, _≤_, _<_}
 use mathlib.Core.Path.{_≡_}
-use mathlib.Core.Bool.{Bool}
-use mathlib.Core.List.{List, _++_}
+use mathlib.Core.Bool.{Bool, cond}
+use mathlib.Core.List.{List, _++_, map}
 use lib.ListN.{length, drop}
 use Rattle.grammar.specs.Lists.{Stands}
 use Rattle.grammar.specs.Input.{Holds}
 use Rattle.grammar.specs.Items.{bare}
-use Rattle.grammar.specs.ItemList.{item}
+use Rattle.grammar.specs.ItemList.{item, among}
 use Rattle.grammar.specs.Chart.{Record, Justified, itemOf}
 use Rattle.grammar.specs.Plan.{PlanStep, LeftmostDerivation}
 use Rattle.layout.specs.Card.{grammarOf, cardNumber}
 use Rattle.layout.specs.Records.{recordAt, chartIn}
-use Rattle.layout.specs.Steps.{planBytes, planRoom}
+use Rattle.layout.specs.Steps.{planBytes, planSteps, planRoom}
 use Rattle.unfold.specs.declared.Start.{Start}
 use Rattle.unfold.specs.declared.Start.the-variants.{At, Missing}
 
@@ -44,7 +44,25 @@ pub record Planned (card : List ℕ) (at : ℕ → ℕ → Bool) (n : ℕ) (old 
 abbrev pub Plans : List ℕ → List ℕ → ℕ → ℕ → List ℕ → List ℕ → Type 0
 Plans card chart count n old new = (at : ℕ → ℕ → Bool) → Held card at chart count → Planned card at n old new
 
--- Where the item of the start over all n words stands, if it does.
-abbrev pub Found : List ℕ → ℕ → ℕ → Start → Type 0
-Found chart count n (At m) = (m < count) × (itemOf (recordAt chart m) ≡ item 0 0 n bare)
-Found chart count n Missing = (m : ℕ) → m < count → itemOf (recordAt chart m) ≡ item 0 0 n bare → ⊥
+-- Document 01's number for each answer of the search for the start, and the steps of a plan of n words that come with it.
+abbrev pub startNumber : Start → ℕ
+startNumber (At m) = 0
+startNumber Missing = 25
+
+abbrev pub startSteps : ℕ → Start → ℕ
+startSteps n (At m) = planSteps n
+startSteps n Missing = 0
+
+-- Does the item of the start over all n words stand among the first count records?
+abbrev pub startStands : List ℕ → ℕ → ℕ → Bool
+startStands chart count n = among (item 0 0 n bare) (map itemOf (chartIn chart count))
+
+-- The position that is answered, if one is, has it.
+abbrev pub StandsAt : List ℕ → ℕ → ℕ → Start → Type 0
+StandsAt chart count n (At m) = (m < count) × (itemOf (recordAt chart m) ≡ item 0 0 n bare)
+StandsAt chart count n Missing = Unit {0}
+
+-- 0 where the item stands among the records, and 25 where it does not. Which position, if several records had it, is free.
+pub record Found (chart : List ℕ) (count n : ℕ) (s : Start) : Type 0 where
+  pub number : startNumber s ≡ cond (startStands chart count n) 0 25
+  pub place : StandsAt chart count n s

@@ -1,5 +1,6 @@
 -- `build_chart` meets its contract: the model's result is exact, its numbers are cleared, and the room is cleared where the items do not
 -- fit.
+use native.Mathlib.Omega.{arith}
 use Rattle.chart.proofs.BuiltExact.{built-over, built-within}
 use borrow.Author.Needs.{needs}
 use Rattle.chart.proofs.build_chart.Statement.{statement}
@@ -25,7 +26,7 @@ same-length c = search needs
 
 returns : tie.Need-returns
 returns c =
-    built-over (c .before .before .before .before .before .before .before .before .before .before .before .before .pre) (c .before .before .before .before .before .before .before .before .before .capacity .ensures) (c .before .before .before .before .before .before .before .build-in .ensures) (c .before .before .before .before .if1 .taken)
+    built-over (c .before .before .before .before .before .before .before .before .before .before .before .before .pre) (c .before .before .before .before .before .before .before .before .before .capacity .ensures) (c .before .before .before .before .before .before .before .build-in .ensures) (omega (arith, c .before .before .before .before .if1 .taken))
     (c .before .before .clear .ensures)
 
 clear-numbers-requires : tie.Need-clear-numbers-requires
@@ -36,7 +37,7 @@ same-length-2 c = search needs
 
 returns-2 : tie.Need-returns-2
 returns-2 c =
-    built-within (c .before .before .before .before .before .before .before .before .before .before .before .before .pre) (c .before .before .before .before .before .before .before .before .before .capacity .ensures) (c .before .before .before .before .before .before .before .build-in .ensures) (c .before .before .before .before .if1 .left)
+    built-within (c .before .before .before .before .before .before .before .before .before .before .before .before .pre) (c .before .before .before .before .before .before .before .before .before .capacity .ensures) (c .before .before .before .before .before .before .before .build-in .ensures) (omega (arith, c .before .before .before .before .if1 .left))
     (c .before .before .clear-numbers .ensures)
 
 pub build-chart-spec : {M : Type 1} → statement M

@@ -1,6 +1,6 @@
 -- The invariant: no record from m on is the start's; the measure is m, which falls at each turn.
 -- At the end m is 0, so no record is.
-use Rattle.unfold.proofs.Starting.{Passed, passed-none, passed-more, answered}
+use Rattle.unfold.proofs.Starting.{Passed, passed-none, passed-more, answered, found-at, found-nowhere}
 use mathlib.Core.Bool.{true, false}
 use native.Mathlib.Omega.{arith}
 use borrow.Author.Needs.{needs}
@@ -23,10 +23,9 @@ is-start-requires : tie.Need-is-start-requires Inv-loop μ-loop
 is-start-requires c κs = omega (arith, c .before .before .before .pre, c .before .loop .inv .below)
 
 returns : tie.Need-returns Inv-loop μ-loop
-returns c = (
-  omega (arith, c .before .before .before .loop .inv .below, c .before .before .loop-test .taken),
-  answered _ _ _ true (c .before .is-start .ensures) (c .if1 .taken),
-)
+returns c =
+    found-at _ _ _ (omega (arith, c .before .before .before .loop .inv .below, c .before .before .loop-test .taken))
+    (answered _ _ _ true (c .before .is-start .ensures) (c .if1 .taken))
 
 loop-less : tie.Need-loop-less Inv-loop μ-loop
 loop-less c = omega arith
@@ -37,7 +36,7 @@ loop-again c =
     (answered _ _ _ false (c .before .is-start .ensures) (c .if1 .left))
 
 returns-2 : tie.Need-returns-2 Inv-loop μ-loop
-returns-2 c = λ k h e. c .before .loop .inv .others k (omega (arith, c .loop-test .left)) h e
+returns-2 c = found-nowhere _ _ _ λ k h e. c .before .loop .inv .others k (omega (arith, c .loop-test .left)) h e
 
 pub find-start-spec : {M : Type 1} → statement M
 find-start-spec =
