@@ -20,7 +20,7 @@ use Rattle.layout.specs.Line.{wordsOf, numbersOf, numberOfWord, orZero}
 use Rattle.layout.specs.Records.{capacity}
 use Rattle.layout.specs.Steps.{planRoom, planSteps}
 use Rattle.layout.specs.Answers.{inputNumber, wordsIn, lineTest, derivable, startFound, HasDerivation}
-use Rattle.layout.specs.Answers.{ReadAnswer, refusal, found, chartAnswer, readAnswer, RoomEnough}
+use Rattle.layout.specs.Answers.{ReadAnswer, refusal, found, outnumber, chartAnswer, readAnswer, RoomEnough}
 use Rattle.layout.proofs.Accepting.{input-other}
 
 pub count-numbers : (card line : List ℕ) → length (numbersOf card line) ≡ wordsIn line
@@ -78,7 +78,7 @@ module _ (card line : List ℕ) (chartRoom room : ℕ) where
       let all = derivable card line in
       let (e₀, e₁, e₂) = decided (eqb (inputNumber card line) 0) (ltb room (planRoom n)) (inputNumber card line) v
       (chartAnswer n chartRoom all) (λ x. eq-eqb (inputNumber card line) 0 (f x)) k e in
-      let (e₃, e₄) = charted (ltb (capacity chartRoom) (length all)) (startFound card line) n (length all) v h e₂ in
+      let (e₃, e₄) = charted (outnumber all chartRoom) (startFound card line) n (length all) v h e₂ in
       (eqb-true (inputNumber card line) 0 e₀, record { planFits = ltb-false _ _ e₁; chartFits = ltb-false _ _ e₃ }, e₄)
 
   -- "Read" comes with a derivation.
