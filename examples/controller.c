@@ -223,7 +223,7 @@ int main(int argc, char **argv)
         fprintf(stderr, "controller: wants the name of a card that can be read\n");
         return 2;
     }
-    printf("card: %zu bytes\n", card_length);
+    printf("lig.h %s, card: %zu bytes\n", LIG_VERSION, card_length);
     unsigned number = lig_number(lig_card_check(card, card_length));
     if (number != LIG_OK)
         print_refusal(number);

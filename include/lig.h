@@ -45,6 +45,19 @@ extern "C" {
 #endif
 
 /*
+ * Version
+ *
+ * The major number rises when a call answers or writes something else than before for some input,
+ * or takes other arguments; the minor one when a call or a macro is added, or a call wants more
+ * stack; the patch with any other change. So a request of document 02 that changes an answer or a
+ * layout raises the major number, and one that only adds a call the minor one.
+ */
+#define LIG_VERSION_MAJOR 1
+#define LIG_VERSION_MINOR 0
+#define LIG_VERSION_PATCH 0
+#define LIG_VERSION "1.0.0"
+
+/*
  * Refusals
  *
  * The number 0 says that the call did what it is for. Any other number is a refusal, and its tens
