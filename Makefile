@@ -18,7 +18,7 @@ lib:
 test:
 	.ci/run
 
-# `make bench` times the calls against another implementation, in one run.
+# `make bench` times the calls against another implementation, in one run, and writes docs/bench.csv and docs/read-time.svg.
 .PHONY: bench
 bench:
 	rt staticlib lig
