@@ -4,6 +4,7 @@ use crate::timing::{Times, measure};
 use crate::workload::{FULL_ROOM, PLAN_ROOM, Workload};
 use independent::answers::ReadAnswer;
 use independent::chart;
+use independent::write::CardText;
 use std::hint::black_box;
 
 pub struct Measured {
@@ -20,6 +21,13 @@ pub struct Measured {
 pub struct PlanTimes {
     pub check: Times,
     pub pairs: Times,
+}
+
+/// The calls on a card alone.
+pub struct MeasuredCard {
+    pub name: String,
+    pub card_check: Times,
+    pub name_of_word: Times,
 }
 
 /// Read alone.
@@ -45,6 +53,21 @@ pub fn measure_all(workload: &Workload) -> Measured {
     Measured {
         plan: (answer.number == 0).then(plan_times),
         ..measure_read(workload)
+    }
+}
+
+/// The card check, and Name for the card's last word. The card has to be accepted.
+pub fn measure_card((name, text): (&str, CardText)) -> MeasuredCard {
+    let card = &text.bytes();
+    let last = text.words.len() - 1;
+    let library = (linked::card_check(card), linked::name(card, last).0);
+    let rival = (chart::card_check(card).into(), chart::name(card, last));
+    assert_eq!(library, rival, "{name}");
+    assert_eq!(library.0, 0, "{name}");
+    MeasuredCard {
+        name: format!("{name}, {} bytes", card.len()),
+        card_check: card_check_times(card),
+        name_of_word: name_times(card, last),
     }
 }
 
@@ -136,6 +159,28 @@ fn pairs_times(workload: &Workload, plan: &[u8]) -> Times {
                 black_box(plan),
                 black_box(&mut rival_room),
             ));
+        },
+    )
+}
+
+fn card_check_times(card: &[u8]) -> Times {
+    measure(
+        || {
+            black_box(linked::card_check(black_box(card)));
+        },
+        || {
+            black_box(chart::card_check(black_box(card)));
+        },
+    )
+}
+
+fn name_times(card: &[u8], word: usize) -> Times {
+    measure(
+        || {
+            black_box(linked::name(black_box(card), black_box(word)));
+        },
+        || {
+            black_box(chart::name(black_box(card), black_box(word)));
         },
     )
 }

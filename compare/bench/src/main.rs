@@ -1,4 +1,4 @@
-//! Times of Read, Check and Pairs, of the library and of a rival made for speed.
+//! Times of the five calls, of the library and of a rival made for speed.
 //! Nothing is asserted about times; that both answer alike is.
 //!
 //! `bench [--csv FILE] [--plot FILE]`
@@ -9,8 +9,9 @@ mod report;
 mod timing;
 mod workload;
 
-use calls::{Measured, measure_all, measure_read};
+use calls::{Measured, MeasuredCard, measure_all, measure_card, measure_read};
 use plot::{Panel, curves};
+use report::Row;
 use std::error::Error;
 use std::fs;
 use workload::{Workload, ambiguous_of, dense, tomato_of};
@@ -22,11 +23,18 @@ fn main() -> Result<(), Box<dyn Error>> {
     println!("Nanoseconds a call, medians.\n");
     let table: Vec<Measured> = workload::all().iter().map(measure_all).collect();
     println!("{}", report::markdown(&table));
+    let cards = workload::cards().map(measure_card);
+    println!("{}", report::cards_markdown(&cards));
     let ambiguous = growth((1..=24).map(ambiguous_of));
     let tomato = growth((0..=11).map(tomato_of));
     let items = growth(ITEM_STEPS.map(dense).into_iter());
-    let all = || table.iter().chain(&ambiguous).chain(&tomato).chain(&items);
-    fs::write(&options.csv, report::csv(all()))?;
+    let measured = table.iter().chain(&ambiguous).chain(&tomato).chain(&items);
+    let mut rows: Vec<Row> = measured.flat_map(Measured::rows).collect();
+    rows.extend(cards.iter().flat_map(MeasuredCard::rows));
+    println!("{}", report::longest_markdown(&rows));
+    if let Some(file) = &options.csv {
+        fs::write(file, report::csv(&rows))?;
+    }
     if let Some(file) = &options.plot {
         fs::write(file, plot::svg(&panels(&ambiguous, &tomato, &items)))?;
     }
@@ -61,22 +69,20 @@ fn panels(ambiguous: &[Measured], tomato: &[Measured], items: &[Measured]) -> [P
     ]
 }
 
+#[derive(Default)]
 struct Options {
-    csv: String,
+    csv: Option<String>,
     plot: Option<String>,
 }
 
 impl Options {
     fn from_arguments() -> Result<Self, Box<dyn Error>> {
-        let mut options = Options {
-            csv: String::from("bench.csv"),
-            plot: None,
-        };
+        let mut options = Options::default();
         let mut arguments = std::env::args().skip(1);
         while let Some(option) = arguments.next() {
             let value = arguments.next().ok_or("an option lacks its value")?;
             match option.as_str() {
-                "--csv" => options.csv = value,
+                "--csv" => options.csv = Some(value),
                 "--plot" => options.plot = Some(value),
                 _ => return Err(format!("unknown option {option}").into()),
             }

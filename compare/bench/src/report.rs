@@ -1,6 +1,6 @@
 //! The measurements as tables.
 
-use crate::calls::Measured;
+use crate::calls::{Measured, MeasuredCard};
 use crate::timing::Times;
 
 /// The main table, in Markdown: nanoseconds of the library, of the rival, and their ratio.
@@ -22,6 +22,27 @@ pub fn markdown(list: &[Measured]) -> String {
             measured.words,
             measured.items,
             cells(&measured.read),
+        );
+    }
+    text
+}
+
+/// The calls on a card alone, in Markdown.
+pub fn cards_markdown(list: &[MeasuredCard]) -> String {
+    let mut text = String::from(
+        "| card | Card check: library | rival | ratio | Name: library | rival | ratio |\n\
+         |---|---|---|---|---|---|---|\n",
+    );
+    for MeasuredCard {
+        name,
+        card_check,
+        name_of_word,
+    } in list
+    {
+        text += &format!(
+            "| {name} | {} | {} |\n",
+            cells(card_check),
+            cells(name_of_word)
         );
     }
     text
@@ -55,25 +76,73 @@ fn cells(times: &Times) -> String {
     )
 }
 
-pub fn csv<'a>(list: impl Iterator<Item = &'a Measured>) -> String {
-    let mut text = String::from("workload,call,number,words,items,library_ns,rival_ns\n");
-    for measured in list {
-        let mut row = |call: &str, times: &Times| {
-            text += &format!(
-                "\"{}\",{call},{},{},{},{:.1},{:.1}\n",
-                measured.name,
-                measured.number,
-                measured.words,
-                measured.items,
-                times.library,
-                times.rival
-            );
+/// One call on one workload.
+pub struct Row<'a> {
+    workload: &'a str,
+    call: &'static str,
+    number: u16,
+    /// Words of the line and derivable items, where the call takes a line.
+    counts: Option<(usize, usize)>,
+    times: &'a Times,
+}
+
+impl Measured {
+    pub fn rows(&self) -> Vec<Row<'_>> {
+        let row = |call, times| Row {
+            workload: &self.name,
+            call,
+            number: self.number,
+            counts: Some((self.words, self.items)),
+            times,
         };
-        row("Read", &measured.read);
-        if let Some(plan) = &measured.plan {
-            row("Check", &plan.check);
-            row("Pairs", &plan.pairs);
+        let mut rows = vec![row("Read", &self.read)];
+        if let Some(plan) = &self.plan {
+            rows.extend([row("Check", &plan.check), row("Pairs", &plan.pairs)]);
         }
+        rows
+    }
+}
+
+impl MeasuredCard {
+    pub fn rows(&self) -> Vec<Row<'_>> {
+        let row = |call, times| Row {
+            workload: &self.name,
+            call,
+            number: 0,
+            counts: None,
+            times,
+        };
+        vec![
+            row("Card check", &self.card_check),
+            row("Name", &self.name_of_word),
+        ]
+    }
+}
+
+/// For each call, the row where the library takes longest, in Markdown.
+pub fn longest_markdown(rows: &[Row]) -> String {
+    let mut text = String::from("| longest of each call | library | workload |\n|---|---|---|\n");
+    for call in ["Card check", "Read", "Check", "Pairs", "Name"] {
+        let of_call = rows.iter().filter(|row| row.call == call);
+        let longest = of_call.max_by(|a, b| a.times.library.total_cmp(&b.times.library));
+        let Row {
+            workload, times, ..
+        } = longest.expect("every call is measured");
+        text += &format!("| {call} | {:.0} | {workload} |\n", times.library);
+    }
+    text
+}
+
+pub fn csv(rows: &[Row]) -> String {
+    let mut text = String::from("workload,call,number,words,items,library_ns,rival_ns\n");
+    for row in rows {
+        let counts = row.counts.map_or(String::from(","), |(words, items)| {
+            format!("{words},{items}")
+        });
+        text += &format!(
+            "\"{}\",{},{},{counts},{:.1},{:.1}\n",
+            row.workload, row.call, row.number, row.times.library, row.times.rival
+        );
     }
     text
 }

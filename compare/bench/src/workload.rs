@@ -43,7 +43,13 @@ pub fn all() -> Vec<Workload> {
         dense(4_000),
         dense(60_000),
         overflow,
+        limits(),
     ]
+}
+
+/// The cards that the calls on a card alone are measured with.
+pub fn cards() -> [(&'static str, CardText); 2] {
+    [("tomato", tomato()), ("limits", limits_card())]
 }
 
 /// A tomato line with as many feeds as materials.
@@ -123,6 +129,37 @@ fn dense_card(random: &mut Random) -> CardText {
         nonterminals: nonterminals as u8,
         indices: indices as u8,
         words: (0..words).map(|number| format!("word{number}")).collect(),
+        productions,
+    }
+}
+
+/// A card at its limits, and 23 times its last word. With 24, no chart would hold the items.
+fn limits() -> Workload {
+    let text = limits_card();
+    let line = text.line(&[31; 23]);
+    Workload::new(String::from("limits, 23 words"), text.bytes(), line, 23)
+}
+
+/// Every count is as high as it can be, and words differ only in the last of their eleven letters.
+/// Two nonterminals and one index have all 48 pairs, and each of the two makes the last 8 words.
+fn limits_card() -> CardText {
+    let both = [0, 1];
+    let mut productions = Vec::new();
+    for (kind, index) in [(1, 1), (2, 1), (3, 0), (4, 0), (5, 1), (6, 1)] {
+        for a in both {
+            for b in both {
+                productions.extend(both.map(|c| [kind, a, b, c, index, 0]));
+            }
+        }
+    }
+    for word in 24..32 {
+        productions.extend(both.map(|a| [0, a, word, 0, 0, 0]));
+    }
+    let letters = ('a'..='z').chain('0'..='5');
+    CardText {
+        nonterminals: 16,
+        indices: 8,
+        words: letters.map(|last| format!("nurseryrow{last}")).collect(),
         productions,
     }
 }
