@@ -23,7 +23,7 @@
  *     same call. Inputs, which are const, may overlap one another.
  *   - While a call runs, nothing else writes to what you lent it or reads its rooms: no thread, no
  *     interrupt, no device.
- *   - The stack has the bytes that "Stack", at the end, speaks of.
+ *   - The stack has the bytes that "Stack and time", at the end, speaks of.
  *
  * Nothing more is asked. A card, a line and a plan may hold any bytes and have any length, and a
  * room may be too short or empty: each call then says so by a number.
@@ -257,7 +257,7 @@ uint64_t lig_pairs(const uint8_t *card, size_t card_length,
 uint64_t lig_name(const uint8_t *card, size_t card_length, size_t word);
 
 /*
- * Stack
+ * Stack and time
  *
  * Bytes of stack that each call wants, measured and not proved. tools/stack-use runs the calls on a
  * painted stack, for many cards and lines of every length. The most that it saw, the return address
@@ -275,6 +275,19 @@ uint64_t lig_name(const uint8_t *card, size_t card_length, size_t word);
  * once, for every line, also for one that it refuses. The figures below have at least 128 bytes to
  * spare, as much as a function may use below the stack pointer. Interrupts that run on the same
  * stack come on top.
+ *
+ * Nanoseconds that each call took, measured and not promised. make bench runs the calls on many
+ * cards and lines. The longest median that one run saw, on two cores of a virtual machine (AMD
+ * EPYC) with other programs running, and the workload that took it:
+ *
+ *     lig_card_check          806   limits, 780 bytes
+ *     lig_read         15,047,427   limits, 23 words
+ *     lig_check             4,661   limits, 23 words
+ *     lig_pairs             4,674   limits, 23 words
+ *     lig_name                811   limits, 780 bytes
+ *
+ * "limits" is a card at its limits, under which the line has 59,248 items. Another machine, card or
+ * line may take longer. docs/PERFORMANCE.md has the times of all workloads.
  */
 #define LIG_STACK_CARD_CHECK 256
 #define LIG_STACK_READ 63872
