@@ -13,6 +13,7 @@ pub mod RightSide
 pub mod Leftmost
 pub mod PlanTest
 pub mod PlanSize
+pub mod PlanBounds
 pub mod Existence
 pub mod Unfolding
 pub mod PlanRuns
