@@ -7,6 +7,7 @@ pub mod CountedLaws
 pub mod RuleLaws
 pub mod Feet
 pub mod Reading
+pub mod WordsLength
 pub mod Checking
 pub mod Packing
 pub mod Charts
