@@ -3,7 +3,7 @@
 use Prim.Native.Nat.{ℕ, zero, suc, _+_, _*_, _-_, _/_, _%_, _^_, _≤_, _<_}
 use native.Mathlib.Omega.{arith}
 use native.Mathlib.Nat.{pow-succ', mod-lt, mod-eq-of-lt, div-add-mod}
-use mathlib.Core.Path.{_≡_, refl}
+use mathlib.Core.Path.{_≡_, refl, ap}
 use mathlib.Core.Bool.{Bool, true, false, cond}
 use mathlib.Core.List.{List, [], _∷_, _++_}
 use lib.Dec.{leb, ltb}
@@ -36,6 +36,16 @@ small-digits k n h = rw (lt-ltb n 10 h)
 
 large-digits : (k n : ℕ) → 10 ≤ n → digitsWithin (suc k) n ≡ digitsWithin k (n / 10) ++ ((48 + n % 10) ∷ [])
 large-digits k n h = rw (le-ltb n 10 h)
+
+-- A number below 100 has at most two.
+pub field-two : (n end : ℕ) → n < 100 → length (field n end) ≤ 3
+unfolding decimal
+field-two n end h =
+    let tens : n / 10 < 10 = omega arith in
+    let last = (48 + n % 10) ∷ [] in
+    let two = short-if (ltb n 10) ((48 + n) ∷ []) (digitsWithin 19 (n / 10) ++ last) 2 (omega arith)
+    (omega (arith, length-append (digitsWithin 19 (n / 10)) last, ap length (small-digits 18 (n / 10) tens))) in
+    omega (arith, length-append (digitsWithin 20 n) (end ∷ []), two)
 
 pow-some : (r : ℕ) → 1 ≤ 10 ^ r
 pow-some zero = omega arith

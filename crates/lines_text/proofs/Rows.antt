@@ -7,8 +7,8 @@ use mathlib.Core.List.{List, [], _∷_, _++_}
 use lib.ListN.{length, drop, getD, length-append, length-drop}
 use lib.Seq.{drop-cons}
 use Rattle.split.specs.Lines.{newline}
-use Rattle.lines_text.specs.Text.{space, field, stepLine, stepLines, pairLine, pairLines, readLine}
-use Rattle.lines_text.proofs.Decimal.{field-short}
+use Rattle.lines_text.specs.Text.{space, field, stepLine, stepLines, pairLine, pairLines, readLine, refusedLine}
+use Rattle.lines_text.proofs.Decimal.{field-short, field-two}
 
 part-cons : (l : List ℕ) (s : ℕ) → s < length l → drop s l ≡ getD l s 0 ∷ drop (s + 1) l
 part-cons l s h = drop-cons l s 0 h ∙ ap (λ (n : ℕ). getD l s 0 ∷ drop n l) (sym (add-one s))
@@ -81,6 +81,31 @@ pair-short a b = omega (arith, two-short a b)
 
 pub read-short : (a b : ℕ) → length (readLine a b) ≤ 47
 read-short a b = omega (arith, two-short a b)
+
+pub refused-short : (number : ℕ) → length (refusedLine number) ≤ 29
+refused-short number = omega (arith, field-short number newline)
+
+-- And where their numbers are below 100.
+pub step-two : (p i k j : ℕ) → p < 100 → i < 100 → k < 100 → j < 100 → length (stepLine p i k j) ≤ 12
+step-two p i k j p< i< k< j< =
+    let a = field p space in
+    let b = field i space in
+    let c = field k space in
+    let d = field j newline in
+    omega (
+      arith,
+      length-append a (b ++ (c ++ d)),
+      length-append b (c ++ d),
+      length-append c d,
+      field-two p space p<,
+      field-two i space i<,
+      field-two k space k<,
+      field-two j newline j<,
+    )
+
+pub pair-two : (a b : ℕ) → a < 100 → b < 100 → length (pairLine a b) ≤ 11
+pair-two a b a< b< =
+    omega (arith, length-append (field a space) (field b newline), field-two a space a<, field-two b newline b<)
 
 pub steps-short : (l : List ℕ) → length (stepLines l) ≤ 21 * length l
 steps-short [] = omega arith
