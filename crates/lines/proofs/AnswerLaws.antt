@@ -117,7 +117,7 @@ read-when true false true f x n count e z = absurd (omega arith)
 read-when true false false true x n count e z = (eqb-true x 0 e, refl)
 read-when true false false false x n count e z = absurd (omega arith)
 
-line-read : (card line : List ℕ) → lineAnswer card line .number ≡ 0
+pub line-read : (card line : List ℕ) → lineAnswer card line .number ≡ 0
     → (inputNumber card line ≡ 0) × (lineAnswer card line .steps ≡ planSteps (wordsIn line))
 line-read card line z =
     let x = inputNumber card line in

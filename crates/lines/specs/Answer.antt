@@ -1,10 +1,10 @@
 -- What the program prints for a line and for lines. Free, and named so: which leftmost derivation of a line that is read.
-use Prim.Native.Nat.{ℕ, _≤_, _<_}
+use Prim.Native.Nat.{ℕ, _+_, _*_}
 use mathlib.Core.Path.{_≡_}
 use mathlib.Core.Bool.{Bool, true, false}
 use mathlib.Core.List.{List, [], _∷_, _++_}
 use lib.Dec.{eqb}
-use lib.ListN.{length, take, drop}
+use lib.ListN.{take}
 use Rattle.io.specs.Counts.{Counts}
 use Rattle.grammar.specs.Lists.{concatMap}
 use Rattle.grammar.specs.Plan.{PlanStep, planStep}
@@ -15,7 +15,7 @@ use Rattle.layout.specs.Answers.{ReadAnswer, readAnswer, pairsAnswer}
 use Rattle.layout.specs.Answers.{Derives}
 use Rattle.split.specs.Lines.{linesOf}
 use Rattle.lines_text.specs.Text.{readLine, refusedLine, stepLine, stepLines, pairLine, pairLines, Appends}
-use Rattle.lines.specs.declared.answer.Done.{Done}
+use Rattle.lines.specs.declared.Printed.{Printed}
 
 -- Read's answer with room for 4,000 items and for the steps of 24 words.
 abbrev pub lineAnswer : List ℕ → List ℕ → ReadAnswer
@@ -55,11 +55,20 @@ pub record Answers (card line old : List ℕ) (at : ℕ) (new : List ℕ) (after
   pub shows : LineText card line text
   pub appends : Appends old at text new after
 
--- Of the lines from a place on, the first so many were answered: the buffer's first bytes are their texts, and the others start at
--- `next`. Where there are lines, and room for the text of one, at least one was.
-pub record AnswersAll (card input : List ℕ) (from : ℕ) (old new : List ℕ) (r : Done) : Type 0 where
-  pub lines : List (List ℕ)
-  pub split : linesOf (drop from input) ≡ lines ++ linesOf (drop (r .next) input)
-  pub texts : Texts card lines (take (r .size) new)
-  pub counts : Counts (r .size) new
-  pub further : from < length input → 8192 ≤ length old → from < r .next
+-- Room for the text of so many bytes of input: no line's text takes more than 32 bytes for each byte of the line and for its end, and
+-- what a line takes while it is written is less than 8192.
+abbrev pub textRoom : ℕ → ℕ
+textRoom bytes = 32 * (bytes + 1) + 8192
+
+-- Every line of the input was answered, in order: the buffer's first r bytes are their texts.
+pub record AnswersAll (card input new : List ℕ) (r : ℕ) : Type 0 where
+  pub texts : Texts card (linesOf input) (take r new)
+  pub counts : Counts r new
+
+-- What a run handed to its one write, with the three rooms as it left them: the text of every line of the input that was taken in, in
+-- order, under the card that was taken in.
+pub record Prints (card input text : List ℕ) (r : Printed) : Type 0 where
+  pub card-taken : Counts (r .card) card
+  pub input-taken : Counts (r .input) input
+  pub text-taken : Counts (r .text) text
+  pub text-handed : Texts (take (r .card) card) (linesOf (take (r .input) input)) (take (r .text) text)

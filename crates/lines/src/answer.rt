@@ -1,10 +1,11 @@
 // The answers for lines: what Read and Pairs answer, as text in a buffer.
+use crate::input::MOST_INPUT;
 use lines_text::text;
 use split::line_end;
 ghost use Prim.Native.Nat.{_+_, _≤_};
 ghost use lib.ListN.{length};
 ghost use Rattle.lines_text.specs.Text.{Appends};
-ghost use Rattle.lines.specs.Answer.{planText, Answers, AnswersAll};
+ghost use Rattle.lines.specs.Answer.{planText, Answers, textRoom, AnswersAll};
 
 // Room for 4,000 items.
 const CHART_ROOM: usize = 64000;
@@ -17,11 +18,11 @@ const PAIR_ROOM: usize = 94;
 // More than the text of one line takes, even if each number in it had 20 digits.
 const MOST_TEXT: usize = 8192;
 
-// How many bytes of a buffer the answers took, and where the next line starts.
-pub struct Done {
-    pub size: usize,
-    pub next: usize,
-}
+// A line's text takes at most so many bytes for each byte of the line, its line end among them.
+const TEXT_RATE: usize = 32;
+
+// Room for the text of every input that is taken in.
+pub const TEXT_ROOM: usize = TEXT_RATE * (MOST_INPUT + 1) + MOST_TEXT;
 
 // The steps of a plan, which is all of the bytes, and its pairs: at most 188 × 21 and 94 × 24 bytes of text.
 fn put_plan(card: &[u8], line: &[u8], plan: &[u8], out: &mut [u8], at: usize) -> usize
@@ -52,19 +53,17 @@ fn put_answer(card: &[u8], line: &[u8], out: &mut [u8], at: usize) -> usize
     put_plan(card, line, &plan[..size], out, after)
 }
 
-// The answers for the lines from a place on, until the buffer may not take another.
-pub fn put_answers(card: &[u8], lines: &[u8], from: usize, out: &mut [u8]) -> Done
-    ensures { λ r. ⌜ AnswersAll (now (card .entry)) (now (lines .entry)) from (now (out .entry)) (now (out .exit)) r ⌝ }
+// The answers for every line, one after the other: how many bytes of the buffer they take.
+pub fn put_answers(card: &[u8], lines: &[u8], out: &mut [u8]) -> usize
+    requires { ⌜ textRoom (length (now lines)) ≤ length (now out) ⌝ }
+    ensures { λ r. ⌜ AnswersAll (now (card .entry)) (now (lines .entry)) (now (out .exit)) r ⌝ }
 {
     let mut size = 0;
-    let mut next = from;
+    let mut next = 0;
     while next < lines.len() {
-        if out.len() - size < MOST_TEXT {
-            return Done { size, next };
-        }
         let end = line_end(lines, next);
         size = put_answer(card, &lines[next..end], out, size);
         next = end + 1;
     }
-    Done { size, next }
+    size
 }

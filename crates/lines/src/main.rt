@@ -3,32 +3,45 @@
 mod answer;
 mod input;
 
-ghost use Prim.Native.Nat.{_<_};
+ghost use Prim.Native.Nat.{_≤_};
 ghost use lib.ListN.{length};
+ghost use Rattle.split.specs.Lines.{linesOf};
+ghost use Rattle.lines.specs.Answer.{Texts, textRoom, Prints};
 
-// Answers lines from a place on, as many as a buffer takes, and writes their text; the place of the next line.
-fn print_some(card: &[u8], lines: &[u8], from: usize) -> usize
-    requires { ⌜ from < length (now lines) ⌝ }
-    ensures { λ r. ⌜ from < r ⌝ }
-{
-    let mut out = [0u8; 65536];
-    let done = answer::put_answers(card, lines, from, &mut out);
-    let size = done.size;
-    io::write_all(1, &out[..size]);
-    done.next
+// How many bytes of the card and of the input were taken in, and how many of text were handed out.
+pub struct Printed {
+    pub card: usize,
+    pub input: usize,
+    pub text: usize,
 }
 
-fn print_all(card: &[u8], lines: &[u8]) {
-    let mut at = 0;
-    while at < lines.len() {
-        at = print_some(card, lines, at);
+// The one place that writes. No contract can say what a call of the operating system does, so this one says what may be given to it:
+// the text of every line of the input, in order, under the card.
+fn hand_out(card: &[u8], input: &[u8], text: &[u8])
+    requires { ⌜ Texts (now card) (linesOf (now input)) (now text) ⌝ }
+{
+    io::write_all(1, text);
+}
+
+// Takes in the card and the input, each as far as its room goes, and hands out the text of every line.
+fn print_lines(card: &mut [u8], input: &mut [u8], text: &mut [u8]) -> Printed
+    requires { ⌜ textRoom (length (now input)) ≤ length (now text) ⌝ }
+    ensures { λ r. ⌜ Prints (now (card .exit)) (now (input .exit)) (now (text .exit)) r ⌝ }
+{
+    let card_size = input::load_card(card);
+    let input_size = io::read_full(0, input);
+    let text_size = answer::put_answers(&card[..card_size], &input[..input_size], text);
+    hand_out(&card[..card_size], &input[..input_size], &text[..text_size]);
+    Printed {
+        card: card_size,
+        input: input_size,
+        text: text_size,
     }
 }
 
 fn main() {
     let mut card = [0u8; input::MOST_CARD];
-    let mut lines = [0u8; input::MOST_INPUT];
-    let card_size = input::load_card(&mut card);
-    let input_size = io::read_full(0, &mut lines);
-    print_all(&card[..card_size], &lines[..input_size]);
+    let mut input = [0u8; input::MOST_INPUT];
+    let mut text = [0u8; answer::TEXT_ROOM];
+    print_lines(&mut card, &mut input, &mut text);
 }

@@ -1,33 +1,25 @@
--- `answer::put_answers` meets its contract: the lines up to `next` are answered. The measure is what is left of the input.
+-- `answer::put_answers` meets its contract: the lines up to `next` are answered, in a text that leaves room for the next one's. The
+-- measure is what is left of the input.
 use Prim.Native.Nat.{_-_}
 use native.Mathlib.Omega.{arith}
 use lib.ListN.{length}
-use Rattle.lines.proofs.LinesLaws.{SoFar, none-yet, one-more, at-end, when-full}
+use Rattle.lines.proofs.LinesLaws.{SoFar, none-yet, one-more, at-end}
 use Rattle.lines.proofs.answer.put_answers.Statement.{statement}
 use Rattle.lines.proofs.answer.put_answers.Tie as tie
 
 abbrev Inv-loop : tie.InvT-loop
-Inv-loop card lines from out₀ size₀ next₀ out size next = SoFar card lines from out₀ out size next
+Inv-loop card lines out₀ size₀ next₀ out size next = SoFar card lines out₀ out size next
 
 abbrev μ-loop : tie.MeasureT-loop
-μ-loop card lines from out₀ size₀ next₀ out size next = length lines - next
+μ-loop card lines out₀ size₀ next₀ out size next = length lines - next
 
 loop-holds : tie.Need-loop-holds Inv-loop μ-loop
 loop-holds c =
     let s = c .before .before .before .args in
-    none-yet (s .card .now) (s .lines .now) (s .from) (s .out .now)
-
-sub-if1 : tie.Need-sub-if1 Inv-loop μ-loop
-sub-if1 c = c .before .loop .inv .within
-
-same-length : tie.Need-same-length Inv-loop μ-loop
-same-length c = c .before .before .loop .inv .sameLength
-
-returns : tie.Need-returns Inv-loop μ-loop
-returns c = when-full (c .before .before .loop .inv) (c .if1 .taken)
+    none-yet (s .card .now) (s .lines .now) (s .out .now)
 
 line-end-requires : tie.Need-line-end-requires Inv-loop μ-loop
-line-end-requires c κs = c .before .loop-test .taken
+line-end-requires c κs = c .loop-test .taken
 
 sub-put-answer : tie.Need-sub-put-answer Inv-loop μ-loop
 sub-put-answer c = c .line-end .ensures .starts
@@ -39,22 +31,43 @@ part-put-answer-end : tie.Need-part-put-answer-end Inv-loop μ-loop
 part-put-answer-end c = c .line-end .ensures .within
 
 put-answer-requires : tie.Need-put-answer-requires Inv-loop μ-loop
-put-answer-requires c κs = omega (arith, c .before .before .before .before .before .loop .inv .within, c .before .before .before .if1 .left)
+put-answer-requires c κs =
+    let s = c .before .before .before .before .loop .inv in
+    omega (
+      arith,
+      s .short,
+      s .sameLength,
+      c .before .before .before .loop-test .taken,
+      c .before .before .before .before .before .before .before .before .pre,
+    )
 
 add-next : tie.Need-add-next Inv-loop μ-loop
-add-next c = omega (arith, c .before .before .before .before .before .line-end .ensures .within, c .before .before .before .before .before .before .before .before .before .before .before .before .good)
+add-next c =
+    omega (
+      arith,
+      c .before .before .before .before .before .line-end .ensures .within,
+      c .before .before .before .before .before .before .before .before .before .before .before .good,
+    )
 
 loop-less : tie.Need-loop-less Inv-loop μ-loop
-loop-less c = omega (arith, c .before .before .before .before .before .line-end .ensures .starts, c .before .before .before .before .before .before .before .loop-test .taken)
+loop-less c =
+    omega (
+      arith,
+      c .before .before .before .before .before .line-end .ensures .starts,
+      c .before .before .before .before .before .before .loop-test .taken,
+    )
 
 loop-again : tie.Need-loop-again Inv-loop μ-loop
-loop-again c = one-more (c .before .before .before .before .before .before .before .before .loop .inv) (c .before .before .before .before .before .line-end .ensures) (c .before .before .put-answer .ensures)
+loop-again c =
+    let s = c .before .before .before .before .before .before .before .loop .inv in
+    let l = c .before .before .before .before .before .line-end .ensures in
+    one-more s l (c .before .before .put-answer .ensures)
 
-same-length-2 : tie.Need-same-length-2 Inv-loop μ-loop
-same-length-2 c = c .before .loop .inv .sameLength
+same-length : tie.Need-same-length Inv-loop μ-loop
+same-length c = c .before .loop .inv .sameLength
 
-returns-2 : tie.Need-returns-2 Inv-loop μ-loop
-returns-2 c = at-end (c .before .loop .inv) (c .loop-test .left)
+returns : tie.Need-returns Inv-loop μ-loop
+returns c = at-end (c .before .loop .inv) (c .loop-test .left)
 
 pub put-answers-spec : {M : Type 1} → statement M
 put-answers-spec =
@@ -63,9 +76,6 @@ put-answers-spec =
     Inv-loop
     μ-loop
     loop-holds
-    sub-if1
-    same-length
-    returns
     line-end-requires
     sub-put-answer
     part-put-answer-start
@@ -74,5 +84,5 @@ put-answers-spec =
     add-next
     loop-less
     loop-again
-    same-length-2
-    returns-2)
+    same-length
+    returns)
