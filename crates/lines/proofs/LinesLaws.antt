@@ -3,11 +3,11 @@ use Prim.Native.Nat.{ℕ, _+_, _*_, _-_, _≤_}
 use native.Mathlib.Omega.{arith}
 use mathlib.Core.Path.{_≡_, refl, sym, _∙_, ap, subst}
 use mathlib.Core.List.{List, [], _∷_, _++_, append-assoc, append-nil}
-use lib.ListN.{length, take, drop, length-drop, drop-of-length-le, replicate, length-replicate}
+use lib.ListN.{length, take, drop, length-drop, drop-of-length-le}
 use lib.Seq.{length-take-le}
 use Rattle.split.specs.Lines.{linesOf, LineEnds}
 use Rattle.lines_text.proofs.Appending.{appends-within}
-use Rattle.lines.specs.Answer.{LineText, Texts, none, more, Answers, textRoom, AnswersAll}
+use Rattle.lines.specs.Answer.{LineText, Texts, none, more, Answers, AnswersAll}
 use Rattle.lines.proofs.TextLength.{text-length}
 
 texts-one-more : {card : List ℕ} {lines : List (List ℕ)} {texts : List ℕ} (line text : List ℕ) → Texts card lines texts
@@ -65,11 +65,3 @@ module _ {card input old out : List ℕ} {size next : ℕ} (s : SoFar card input
         texts = subst (λ (lines : List (List ℕ)). Texts card lines (take size out)) (all-lines h) (s .texts);
         counts = (s .within, sym (length-take-le size out (s .within)));
       }
-
--- A room of zeros has its length; and one is large enough for the text of another's bytes.
-pub zeros-length : (n : ℕ) → n ≡ length {A = ℕ} (replicate n 0)
-zeros-length n = sym (length-replicate {A = ℕ} n 0)
-
-pub room-enough : (bytes room : ℕ) → textRoom bytes ≤ room
-    → textRoom (length {A = ℕ} (replicate bytes 0)) ≤ length {A = ℕ} (replicate room 0)
-room-enough bytes room h = omega (arith, zeros-length bytes, zeros-length room)
