@@ -3,19 +3,18 @@
 use Prim.Native.Nat.{ℕ, zero, suc, _+_, _-_, _≤_, _<_}
 use native.Mathlib.Omega.{arith}
 use native.Mathlib.Nat.{not-suc-le-zero}
-use mathlib.Core.Path.{_≡_, refl, sym, subst}
+use mathlib.Core.Path.{_≡_, subst}
 use mathlib.Core.Bool.{Bool, true, false}
 use mathlib.Core.List.{List, [], _∷_, _++_, map, List·Memᴰ}
 use mathlib.Core.Option.{Option, none, some}
 use lib.Dec.{eqb}
 use lib.ListN.{length, length-append, getElem?}
-use Rattle.grammar.specs.Lists.{Stands, concatMap, only, upTo}
+use Rattle.grammar.specs.Lists.{concatMap, only, upTo}
 use Rattle.grammar.specs.Input.{Holds}
-use Rattle.grammar.specs.Rewriting.{Rule, Symbol, word, nonterminal, Replaces, lexical, spine, start}
+use Rattle.grammar.specs.Rewriting.{Rule, Symbol, word, nonterminal, Replaces, start}
 use Rattle.grammar.specs.Plan.{PlanStep, planStep, firstOf, othersOf, Yields, nothing, reads, replaces, LeftmostDerivation, rightSide}
 use Rattle.grammar.proofs.ListLaws.{eqb-self, concatMap-in, only-in, upTo-in, map-in}
-use Rattle.grammar.proofs.StandsLaws.{stands-length}
-use Rattle.grammar.proofs.RightSide.{no-word, right-side}
+use Rattle.grammar.proofs.RightSide.{no-word, replaces-below, right-side}
 use Rattle.grammar.proofs.PlanSize.{yields-forward}
 
 -- i, .., j
@@ -51,10 +50,6 @@ between-in {i} {j} {m} h k =
     let e : i + (m - i) ≡ m = omega arith in
     subst (λ (x : ℕ). List·Memᴰ x (between i j)) e (map-in (λ (d : ℕ). i + d) (upTo-in {k = m - i} (suc j - i) (omega arith)))
 
-replaces-below : {g : List Rule} {p : ℕ} {X : Symbol} {r : List Symbol} → Replaces g p X r → p < length g
-replaces-below (lexical s) = stands-length s
-replaces-below (spine s a) = stands-length s
-
 module _ (g : List Rule) (at : ℕ → ℕ → Bool) where
   by-right : (depth : ℕ) {p A i k m : ℕ} {s : List ℕ} {r : List Symbol} {first others : List PlanStep} → Replaces g p (nonterminal A s) r
       → i ≤ k → k ≤ m → List·Memᴰ first (ofForm at (ofNonterminal g at depth) (firstOf r) i k)
@@ -63,7 +58,7 @@ module _ (g : List Rule) (at : ℕ → ℕ → Bool) where
   by-right depth {p} {A} {i} {k} {m} {s} {r} {first} {others} x h h′ a b =
       let every = ofForm at (ofNonterminal g at depth) in
       let step : ℕ → List PlanStep → List PlanStep → List PlanStep = λ k f o. planStep p i k m ∷ (f ++ o) in
-      concatMap-in (λ (q : ℕ). byRight every q i m (rightSide (getElem? g q) A s)) (upTo-in (length g) (replaces-below x))
+      concatMap-in (λ (q : ℕ). byRight every q i m (rightSide (getElem? g q) A s)) (upTo-in (length g) (replaces-below g x))
       (rw (right-side g .1 x)
       (concatMap-in (λ (c : ℕ). concatMap (λ (f : List PlanStep). map (step c f) (every (othersOf r) c m)) (every (firstOf r) i c))
       (between-in h h′)

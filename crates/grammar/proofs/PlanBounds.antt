@@ -3,9 +3,9 @@ use Prim.Native.Nat.{ℕ, _≤_, _<_}
 use native.Mathlib.Omega.{arith}
 use mathlib.Core.List.{List, [], _∷_, _++_}
 use lib.ListN.{length}
-use Rattle.grammar.specs.Rewriting.{Rule, Symbol, Replaces, lexical, spine}
+use Rattle.grammar.specs.Rewriting.{Rule, Symbol}
 use Rattle.grammar.specs.Plan.{PlanStep, planStep, Yields, nothing, reads, replaces}
-use Rattle.grammar.proofs.StandsLaws.{stands-length}
+use Rattle.grammar.proofs.RightSide.{replaces-below}
 use Rattle.grammar.proofs.PlanSize.{yields-forward}
 
 pub data StepsWithin (g : List Rule) (n : ℕ) : List PlanStep → Type 0 where
@@ -18,16 +18,12 @@ within-append : {g : List Rule} {m n : ℕ} {ps qs : List PlanStep} → m ≤ n 
 within-append h noStep y = y
 within-append h (oneStep b x) y = oneStep (b .0, b .1, b .2, omega (arith, b .3)) (within-append h x y)
 
-replaces-within : {g : List Rule} {p : ℕ} {X : Symbol} {r : List Symbol} → Replaces g p X r → p < length g
-replaces-within (lexical s) = stands-length s
-replaces-within (spine s a) = stands-length s
-
 -- By induction on the yield: a right side's elements stand one after the other, and what comes after them ends later.
 pub yields-within : {g : List Rule} {at : ℕ → ℕ → Type 0} {f : List Symbol} {i j : ℕ} {plan : List PlanStep} → Yields g at f i j plan
     → StepsWithin g j plan
 yields-within nothing = noStep
 yields-within (reads a y) = yields-within y
-yields-within (replaces s y₀ y₁ y₂) =
+yields-within {g} (replaces s y₀ y₁ y₂) =
     let l₀ = yields-forward y₀ in let l₁ = yields-forward y₁ in let l₂ = yields-forward y₂ in
-    oneStep (replaces-within s, l₀, l₁, l₂)
+    oneStep (replaces-below g s, l₀, l₁, l₂)
     (within-append l₂ (within-append l₁ (yields-within y₀) (yields-within y₁)) (yields-within y₂))

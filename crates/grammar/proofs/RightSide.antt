@@ -1,19 +1,19 @@
 -- The test's right side of a production is the right side that `Replaces` gives, both ways; so a production's number and the
 -- nonterminal fix the right side. Each test on numbers is passed or not, and a test that is not passed leaves `none`.
-use Prim.Native.Nat.{ℕ}
+use Prim.Native.Nat.{ℕ, _<_}
 use mathlib.Core.Path.{_≡_, refl, sym, _∙_}
 use mathlib.Core.Logic.{_↔_}
 use mathlib.Core.Bool.{Bool, true, false}
 use mathlib.Core.List.{List, [], _∷_, _++_}
 use mathlib.Core.Option.{Option, none, some}
 use lib.Dec.{eqb}
-use lib.ListN.{getElem?}
+use lib.ListN.{length, getElem?}
 use borrow.Author.Tests.{eqb-true}
 use Rattle.grammar.specs.Lists.{Stands}
 use Rattle.grammar.specs.Rewriting.{Rule, Lexical, Spine, Action, Take, Keep, Give, Acts, takes, keeps, gives, Symbol, word, nonterminal, sides, Replaces, lexical, spine}
 use Rattle.grammar.specs.Plan.{acted, spineRight, wordRight, rightOf, rightSide}
 use Rattle.grammar.proofs.ListLaws.{eqb-self}
-use Rattle.grammar.proofs.StandsLaws.{stands-getElem, getElem-stands, none-some, some-same}
+use Rattle.grammar.proofs.StandsLaws.{stands-getElem, getElem-stands, stands-length, none-some, some-same}
 
 -- What stands behind a test, as the test of a plan writes it.
 abbrev guarded : {A : Type 0} → Bool → Option A → Option A
@@ -42,6 +42,10 @@ spine-right before D after (some t) h = (t, refl, some-same h)
 module _ (g : List Rule) where
   pub no-word : {p w : ℕ} {r : List Symbol} → Replaces g p (word w) r → ⊥
   no-word x = elim x [ ]
+
+  pub replaces-below : {p : ℕ} {X : Symbol} {r : List Symbol} → Replaces g p X r → p < length g
+  replaces-below (lexical x) = stands-length x
+  replaces-below (spine x a) = stands-length x
 
   replaces-right : {p A : ℕ} {s : List ℕ} {r : List Symbol} → Replaces g p (nonterminal A s) r
       → rightSide (getElem? g p) A s ≡ some r
