@@ -65,6 +65,13 @@ pub record AnswersAll (card input new : List ℕ) (r : ℕ) : Type 0 where
   pub texts : Texts card (linesOf input) (take r new)
   pub counts : Counts r new
 
+-- The rooms of card and input: at most 4,096 bytes of the file are loaded, and the first 60,000 of standard input are the whole of it.
+abbrev pub mostCard : ℕ
+mostCard = 4096
+
+abbrev pub mostInput : ℕ
+mostInput = 60000
+
 -- What a run handed to its one write, with the three rooms as it left them: the text of every line of the input that was taken in, in
 -- order, under the card that was taken in.
 pub record Prints (card input text : List ℕ) (r : Printed) : Type 0 where

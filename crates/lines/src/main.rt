@@ -3,10 +3,11 @@
 mod answer;
 mod input;
 
+ghost use mathlib.Core.Path.{_≡_};
 ghost use Prim.Native.Nat.{_≤_};
 ghost use lib.ListN.{length};
 ghost use Rattle.split.specs.Lines.{linesOf};
-ghost use Rattle.lines.specs.Answer.{Texts, textRoom, AnswersAll, Prints};
+ghost use Rattle.lines.specs.Answer.{Texts, textRoom, AnswersAll, mostCard, mostInput, Prints};
 
 // How many bytes of the card and of the input were taken in, and how many of text were handed out.
 pub struct Printed {
@@ -55,6 +56,7 @@ fn print_within(
     text: &mut [u8; answer::TEXT_ROOM],
 ) -> Printed
     ensures { λ r. ⌜ Prints (now (card .exit)) (now (input .exit)) (now (text .exit)) r ⌝ }
+    ensures { λ _. ⌜ (length (now (card .exit)) ≡ mostCard) × (length (now (input .exit)) ≡ mostInput) ⌝ }
 {
     print_lines(card, input, text)
 }
