@@ -5,7 +5,8 @@ use native.Mathlib.Nat.{pow-succ'}
 use native.Mathlib.Omega.{arith}
 use native.Mathlib.Decide.{ℕ-discrete}
 use mathlib.Core.Path.{_≡_, refl, sym, ap, ap₂, _∙_}
-use mathlib.Core.Bool.{not, _||_}
+use mathlib.Core.Bool.{true, false, not, _||_}
+use mathlib.Core.Logic.{_⊎_, inl, inr, ⊎-elim}
 use lib.Dec.{eqb}
 use lib.Pow.{pow-pos, shl-exact}
 use lib.Bits.{bitAnd, bitOr, and-step, or-step, and-zero-r}
@@ -75,11 +76,22 @@ bit-clear b x h = elim (ℕ-discrete (bitOf b x) 0) [
       absurd (omega (arith, pow-pos b, and-power b x, ap (λ (k : ℕ). k * 2 ^ b) one))
 ]
 
-pub test-bit : (b x : ℕ) → not (eqb (bitAnd x (2 ^ b)) 0) ≡ holdsBit b x
-test-bit b x = elim (ℕ-discrete (bitAnd x (2 ^ b)) 0) [
-  | yes e ↦ rw (eq-eqb _ _ e, ne-eqb (bitOf b x) 1 (λ o. absurd (omega (arith, bit-clear b x e))))
-  | no d ↦ rw (ne-eqb _ _ d, eq-eqb (bitOf b x) 1 (bit-set b x d))
+-- The same of a set: that number is not 0 where the set has b, and 0 where it has not.
+pub bit-decides : (b x : ℕ) → ((0 < bitAnd x (2 ^ b)) × (holdsBit b x ≡ true)) ⊎ ((bitAnd x (2 ^ b) ≡ 0) × (holdsBit b x ≡ false))
+bit-decides b x = elim (ℕ-discrete (bitAnd x (2 ^ b)) 0) [
+  | yes e ↦ inr (e, ne-eqb (bitOf b x) 1 (λ o. absurd (omega (arith, bit-clear b x e))))
+  | no d ↦ inl (omega arith, eq-eqb (bitOf b x) 1 (bit-set b x d))
 ]
+
+-- A test by `!=`, from the fact.
+pub ne-test : (a b : ℕ) → (a ≡ b → ⊥) → not (eqb a b) ≡ true
+ne-test a b h = ap not (ne-eqb a b h)
+
+pub eq-test : (a b : ℕ) → a ≡ b → not (eqb a b) ≡ false
+eq-test a b h = ap not (eq-eqb a b h)
+
+pub test-bit : (b x : ℕ) → not (eqb (bitAnd x (2 ^ b)) 0) ≡ holdsBit b x
+test-bit b x = ⊎-elim (λ (some, has). rw has (omega (arith, ne-test, some))) (λ (none, has). rw has (omega (arith, eq-test, none))) (bit-decides b x)
 
 -- One bit more: bit a of `x | (1 << b)`.
 pub holdsBit-more : (a b x : ℕ) → holdsBit a (bitOr x (2 ^ b)) ≡ (eqb a b || holdsBit a x)

@@ -1,13 +1,10 @@
 -- `has`: a set of numbers below 32 has none from 32 on, and below that the bit of the number decides.
 -- `1 << b` is 2 ^ b there.
 use native.Mathlib.Omega.{arith}
-use mathlib.Core.Bool.{not}
-use mathlib.Core.Path.{ap, sym, _∙_}
-use Prim.Native.Nat.{ℕ}
+use mathlib.Core.Logic.{⊎-elim}
 use borrow.Author.Needs.{needs}
-use lib.Bits.{bitAnd}
-use lib.Dec.{eqb}
-use Rattle.bits.proofs.BitLaws.{bit-beyond, test-bit, one-shifted}
+use borrow.Author.Tests.{lt-ltb, le-ltb}
+use Rattle.bits.proofs.BitLaws.{bit-beyond, bit-decides, ne-test, eq-test, one-shifted}
 use Rattle.bits.proofs.has.Statement.{statement}
 use Rattle.bits.proofs.has.Tie as tie
 
@@ -20,7 +17,11 @@ shl-result c = search needs
 returns-2 : tie.Need-returns-2
 returns-2 c =
     let a = c .before .args in
-    ap (λ (x : ℕ). not (eqb (bitAnd (a .set) x) 0)) (one-shifted (a .b) 32 (omega arith)) ∙ test-bit (a .b) (a .set)
+    let one = one-shifted (a .b) 32 (omega arith) in
+    ⊎-elim
+    (λ (some, has). rw (one, has) (omega (arith, ne-test, lt-ltb, some)))
+    (λ (none, has). rw (one, has) (omega (arith, eq-test, le-ltb, none)))
+    (bit-decides (a .b) (a .set))
 
 pub has-spec : {M : Type 1} → statement M
 has-spec = tie.close (tie.spec returns shl-result returns-2)
