@@ -6,7 +6,7 @@ use native.Mathlib.Decide.{ℕ-discrete}
 use mathlib.Core.Path.{_≡_, refl, sym, _∙_, ap, ap₂}
 use mathlib.Core.Bool.{Bool, true, false, not, _&&_, and-assoc, and-eq-true-iff, false≢true}
 use mathlib.Core.List.{List, [], _∷_, _++_}
-use borrow.Author.Tests.{not-true, not-false, leb-true, eqb-true, eq-eqb, ne-eqb}
+use borrow.Author.Tests.{not-true, not-false, leb-true, leb-false, eqb-true, eqb-false, le-leb, lt-leb, eq-eqb, ne-eqb}
 use lib.Dec.{eqb, leb}
 use lib.ListN.{length, getD}
 use Rattle.layout.specs.Bytes.{sameBytes, allBytes, allBelow}
@@ -18,6 +18,22 @@ refused {t} e h = sym e ∙ not-true t h
 
 pub passed : {t b : Bool} → t ≡ b → not t ≡ false → b ≡ true
 passed {t} e h = sym e ∙ not-false t h
+
+-- Two tests of numbers that hold of the same numbers, however they are written: `omega (arith, tests)` turns each into its fact.
+pub same-answer : (t : Bool) {u : Bool} → (t ≡ true → u ≡ true) → (t ≡ false → u ≡ false) → t ≡ u
+same-answer true h k = sym (h refl)
+same-answer false h k = sym (k refl)
+
+pub ruleset tests = (leb-true, leb-false, eqb-true, eqb-false, le-leb, lt-leb, eq-eqb, ne-eqb)
+
+-- An answer that cannot be the other one.
+pub unless-true : (t : Bool) → (t ≡ true → t ≡ false) → t ≡ false
+unless-true true h = h refl
+unless-true false h = refl
+
+pub unless-false : (t : Bool) → (t ≡ false → t ≡ true) → t ≡ true
+unless-false true h = refl
+unless-false false h = h refl
 
 -- A later part that does not hold.
 no-later : (t : Bool) {b : Bool} → false ≡ b → false ≡ (t && b)

@@ -20,7 +20,7 @@ shared-slice-read-if1 c = omega arith
 
 returns : tie.Need-returns Inv-loop μ-loop
 returns c =
-    ended-there (c .before .before .before .loop .inv) (c .before .before .loop-test .taken) (c .if1 .taken)
+    ended-there (c .before .before .before .loop .inv) (c .before .before .loop-test .taken) (omega (arith, c .if1 .taken))
 
 add-i : tie.Need-add-i Inv-loop μ-loop
 add-i c = omega arith
@@ -30,7 +30,7 @@ loop-less c = omega arith
 
 loop-again : tie.Need-loop-again Inv-loop μ-loop
 loop-again c =
-    passed-more (c .before .before .before .loop .inv) (c .before .before .loop-test .taken) (c .if1 .left)
+    passed-more (c .before .before .before .loop .inv) (c .before .before .loop-test .taken) (omega (arith, c .if1 .left))
 
 returns-2 : tie.Need-returns-2 Inv-loop μ-loop
 returns-2 c =
