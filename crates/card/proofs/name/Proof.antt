@@ -1,7 +1,8 @@
 -- `name`: past the refusals the word is known, so its entry lies inside the card and its length is at most 11.
 -- The part from the entry's second byte, of that length, is the spelling.
+use Prim.Native.Nat.{_+_}
 use native.Mathlib.Omega.{arith}
-use mathlib.Core.Path.{_≡_, sym, _∙_}
+use mathlib.Core.Path.{_≡_, _∙_}
 use borrow.Author.Needs.{needs}
 use denote.Ref.{now}
 use Rattle.layout.specs.Answers.{nameNumber}
@@ -12,7 +13,7 @@ use Rattle.card.proofs.name.Tie as tie
 
 -- Past the refusals the word is known, and the number read is the length of its spelling.
 zero : (c : tie.Else1) → nameNumber (now (c .before .before .before .args .card)) (c .before .before .before .args .word) ≡ 0
-zero c = sym (c .before .name-number .ensures) ∙ c .if1 .left
+zero c = omega (arith, c .before .name-number .ensures, c .if1 .left)
 
 known : (c : tie.Else1) → Known (now (c .before .before .before .args .card)) (c .before .before .before .args .word)
 known c = known-word (now (c .before .before .before .args .card)) (c .before .before .before .args .word) (zero c)
@@ -39,7 +40,7 @@ slice-aggregate-result c = search needs
 returns : tie.Need-returns
 returns c =
     let a = c .before .before .before .before .args in
-    no-part (now (a .card)) (a .word) λ e. c .before .if1 .taken (c .before .before .name-number .ensures ∙ e)
+    no-part (now (a .card)) (a .word) (omega (arith, c .before .if1 .taken, c .before .before .name-number .ensures))
 
 entry-at-requires : tie.Need-entry-at-requires
 entry-at-requires c κs = let h = known (c .before) in omega (arith, c .of .ensures .shortHeader)
@@ -76,8 +77,10 @@ returns-2 c =
     let a = c .before .before .before .before .before .before .before .before .args in
     let entry = c .before .before .before .entry-at in
     let read = c .before in
-    name-part (now (a .card)) (a .word) (entry .result) (read .wide .result) (zero (c .before .before .before .before .before))
-    (place (c .before .before .before)) (size read)
+    let part = name-part (now (a .card)) (a .word) (entry .result) (read .wide .result) (zero (c .before .before .before .before .before))
+    (place (c .before .before .before)) (size read) in
+    let same : 1 + entry .result + read .wide .result ≡ entry .result + 1 + read .wide .result = omega arith in
+    cc (part, same)
 
 pub name-spec : {M : Type 1} → statement M
 name-spec =

@@ -1,6 +1,7 @@
 -- `entries::entries_equal`: an entry is its first eight bytes and the four after them.
 -- As many bytes are the same where their numbers are, so the eights decide where they differ, and else the fours.
 use Prim.Native.Nat.{_+_}
+use native.Mathlib.Nat.{add-comm}
 use native.Mathlib.Omega.{arith}
 use mathlib.Core.Path.{_∙_}
 use borrow.Author.Needs.{needs}
@@ -57,7 +58,8 @@ returns-2 c =
     let first = on .before .before .before .entry-at in
     let second = on .before .before .entry-at2 in
     let fours =
-    same-part card (bytes on) (first .result + 8) (second .result + 8) 4 (omega arith) (omega arith) (c .before .four .ensures) (c .four2 .ensures) in
+    same-part card (bytes on) (first .result + 8) (second .result + 8) 4 (omega arith) (omega arith) {x = c .before .four .result} {x′ = c .four2 .result}
+    (cc (c .before .four .ensures, add-comm 8 (first .result))) (cc (c .four2 .ensures, add-comm 8 (second .result))) in
     let rest =
     rest-decides card (bytes on) (first .result) (second .result) 8 (omega arith) (omega arith) (on .before .eight .ensures) (on .eight2 .ensures) 4
     (c .before .before .if1 .left) in
