@@ -2,8 +2,8 @@
 use Prim.Native.Nat.{_-_}
 use mathlib.Core.Path.{sym, _∙_}
 use borrow.Author.Needs.{needs}
-use borrow.Author.Tests.{not-true, not-false}
 use lib.ListN.{length}
+use Rattle.layout.proofs.TestLaws.{unless-true, unless-false}
 use Rattle.line.specs.Words.{Letters}
 use Rattle.line.proofs.LetterLaws.{letters-none, letters-more, past-here, past-line}
 use Rattle.line.proofs.cut.word_end.Statement.{statement}
@@ -26,7 +26,7 @@ is-letter-requires c κs = tt
 
 returns : tie.Need-returns Inv-loop μ-loop
 returns c =
-    past-here (c .before .before .before .before .loop .inv) (sym (c .before .is-letter .ensures) ∙ not-true _ (c .if1 .taken))
+    past-here (c .before .before .before .before .loop .inv) (sym (c .before .is-letter .ensures) ∙ unless-true _ λ e. cc (e, c .if1 .taken))
 
 add-end : tie.Need-add-end Inv-loop μ-loop
 add-end c = search needs
@@ -37,7 +37,7 @@ loop-less c = search needs
 loop-again : tie.Need-loop-again Inv-loop μ-loop
 loop-again c =
     letters-more (c .before .before .before .before .loop .inv) (c .before .before .before .loop-test .taken)
-    (sym (c .before .is-letter .ensures) ∙ not-false _ (c .if1 .left))
+    (sym (c .before .is-letter .ensures) ∙ unless-false _ λ e. cc (e, c .if1 .left))
 
 returns-2 : tie.Need-returns-2 Inv-loop μ-loop
 returns-2 c = past-line (c .before .loop .inv) (c .loop-test .left)

@@ -73,10 +73,10 @@ entry-less c =
     omega (arith, turn on .counted, on .before .before .before .before .pre .1 .words)
 
 entry-again : tie.Need-entry-again Inv-loop μ-loop Inv-entry μ-entry
-entry-again c = turn-other (turn (c .before .before .before .before)) (size (c .before)) (c .if2 .taken)
+entry-again c = turn-other (turn (c .before .before .before .before)) (size (c .before)) (omega (arith, c .if2 .taken))
 
 loop-holds : tie.Need-loop-holds Inv-loop μ-loop Inv-entry μ-entry
-loop-holds c = comparing-first (turn (c .before .before .before .before)) (size (c .before)) (c .if2 .left)
+loop-holds c = comparing-first (turn (c .before .before .before .before)) (size (c .before)) (omega (arith, c .if2 .left))
 
 -- The same while its bytes are compared.
 turn-on : (c : tie.At-loop Inv-loop μ-loop Inv-entry μ-entry)
