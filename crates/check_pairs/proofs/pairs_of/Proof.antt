@@ -1,5 +1,6 @@
 -- Each way out is a law of the answer: 33 where the room is short, or the pairs written.
 -- What is counted is what is written.
+use native.Mathlib.Omega.{arith}
 use mathlib.Core.Path.{_∙_}
 use borrow.Author.Needs.{needs}
 use Rattle.card.proofs.Accepted.{view-table}
@@ -23,13 +24,13 @@ mul-if1 c = search needs
 returns : tie.Need-returns
 returns c =
     let a = c .before .before .before .before .before .before .before .args in
-    pairs-short (a .card .now) (a .plan .now) (a .room .now) (c .before .gives .result) (c .before .gives .ensures .0) (c .if1 .taken)
+    pairs-short (a .card .now) (a .plan .now) (a .room .now) (c .before .gives .result) (c .before .gives .ensures .0) (omega (arith, c .if1 .taken))
 
 write-pairs-requires : tie.Need-write-pairs-requires
 write-pairs-requires c κs =
     let at = c .before .before in (
       (c .before .before .before .before .before .before .before .before .pre, at .before .production-table .ensures ∙ view-table (at .before .before .of .ensures)),
-      (at .gives .ensures .0, c .before .if1 .left),
+      (at .gives .ensures .0, omega (arith, c .before .if1 .left)),
     )
 
 same-length : tie.Need-same-length
@@ -39,7 +40,7 @@ returns-2 : tie.Need-returns-2
 returns-2 c =
     let a = c .before .before .before .before .before .before .before .before .before .before .before .args in
     let gives = c .before .before .before .before .before .gives in
-    pairs-written (a .card .now) (a .plan .now) (a .room .now) (gives .result) (gives .ensures .0) _ (c .before .before .before .before .if1 .left)
+    pairs-written (a .card .now) (a .plan .now) (a .room .now) (gives .result) (gives .ensures .0) _ (omega (arith, c .before .before .before .before .if1 .left))
     (c .before .before .write-pairs .ensures)
 
 pub pairs-of-spec : {M : Type 1} → statement M

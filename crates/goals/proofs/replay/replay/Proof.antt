@@ -5,6 +5,7 @@ use native.Mathlib.Omega.{arith}
 use mathlib.Core.Path.{_∙_}
 use borrow.Author.Needs.{needs}
 use lib.ListN.{length}
+use Rattle.layout.proofs.TestLaws.{same-answer, tests}
 use Rattle.card.proofs.Accepted.{view-table}
 use Rattle.goals.specs.Shown.{RulesOf}
 use Rattle.goals.proofs.ReplayLaws.{Replaying, replay-start, replay-within, replay-short, replay-over, replay-stuck, replay-on}
@@ -98,7 +99,8 @@ returns-3 : tie.Need-returns-3 Inv-loop μ-loop
 returns-3 c =
     let a = c .before .before .before .before .before .before .before .args in
     let l = c .before .before .loop in
-    replay-over (a .card .now) (a .places .now) (a .n) (a .plan .now) (l .names) (l .ends) (l .bases) (l .stack) (l .stand) (l .at) (l .inv .0) (c .before .loop-test .left)
+    same-answer _ (omega (arith, tests)) (omega (arith, tests))
+    ∙ replay-over (a .card .now) (a .places .now) (a .n) (a .plan .now) (l .names) (l .ends) (l .bases) (l .stack) (l .stand) (l .at) (l .inv .0) (c .before .loop-test .left)
 
 pub replay-spec : {M : Type 1} → statement M
 replay-spec =
