@@ -58,5 +58,6 @@ module _ (number : ℕ) (old : List ℕ) (inside : number / 8 < length old) wher
         ∙ ap (λ (b : Bool). b || markAt old k) (sym (ne-eqb k number (λ s. d (ap (λ (m : ℕ). m / 8) s))))
   ]
 
-  pub mark-set : {bit : ℕ} → bit ≡ 2 ^ (number % 8) → MarkAdded number old (set old (number / 8) (bitOr (getD old (number / 8) 0) bit))
-  mark-set d = rw d (record { sameLength = simp length-set; others = others })
+  pub mark-set : {bit : ℕ} {new : List ℕ} → bit ≡ 2 ^ (number % 8) → new ≡ set old (number / 8) (bitOr (getD old (number / 8) 0) bit)
+      → MarkAdded number old new
+  mark-set d e = rw (e, d) (record { sameLength = simp length-set; others = others })

@@ -1,4 +1,7 @@
 -- `marks::mark` meets its contract: the byte and the bit are those of the number.
+use Prim.Native.Nat.{_/_}
+use lib.Bits.{or-comm}
+use lib.ListN.{getD}
 use Rattle.records.proofs.MarkLaws.{mark-set}
 use borrow.Author.Needs.{needs}
 use Rattle.records.proofs.marks.mark.Statement.{statement}
@@ -18,7 +21,10 @@ same-length c = search needs
 
 returns : tie.Need-returns
 returns c =
-    mark-set (c .before .before .before .args .number) (c .before .before .before .args .marks .now) (c .before .before .before .pre) (c .before .bit-of .ensures)
+    let a = c .before .before .before .args in
+    let bit = c .before .bit-of in
+    mark-set (a .number) (a .marks .now) (c .before .before .before .pre) (bit .ensures)
+    (cc (or-comm (bit .result) (getD (a .marks .now) (a .number / 8) 0)))
 
 pub mark-spec : {M : Type 1} → statement M
 mark-spec =

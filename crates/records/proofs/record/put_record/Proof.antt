@@ -1,6 +1,7 @@
 -- `record::put_record` meets its contract: the 16 bytes that are put together are the record's and its number's, and `put_all` puts them
 -- in place. Without an index the foot's parts are those of a record without a foot, as is asked.
 use Prim.Native.Nat.{ℕ, _+_, _*_}
+use native.Mathlib.Nat.{mul-comm}
 use native.Mathlib.Decide.{ℕ-discrete}
 use mathlib.Core.Path.{_≡_, _∙_, ap}
 use mathlib.Core.List.{List, [], _∷_, _++_}
@@ -66,8 +67,7 @@ returns c =
     (h .before .before .before .before .before .before .before .low .ensures) (h .before .before .before .before .before .before .high .ensures) (h .before .before .before .before .before .low2 .ensures) (h .before .before .before .before .high2 .ensures) (h .before .before .before .low3 .ensures) (h .before .before .high3 .ensures)
     (h .before .low4 .ensures) (h .high4 .ensures)
     in
-    c .before .before .put-all .ensures
-    ∙ ap (λ (l : List ℕ). take (16 * a .m) (a .chart .now) ++ (l ++ drop (16 * a .m + 16) (a .chart .now))) bytes
+    cc (c .before .before .put-all .ensures, bytes, mul-comm 16 (a .m))
 
 pub put-record-spec : {M : Type 1} → statement M
 put-record-spec =

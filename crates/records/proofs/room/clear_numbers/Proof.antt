@@ -1,5 +1,6 @@
 -- `room::clear_numbers` meets its contract. The loop's invariant: the numbers of the first m records are cleared.
 use Prim.Native.Nat.{ℕ, _+_, _-_, _*_, _≤_}
+use native.Mathlib.Nat.{add-comm, mul-comm}
 use native.Mathlib.Omega.{arith}
 use mathlib.Core.Path.{_≡_, refl, _∙_, ap}
 use lib.ListN.{length, length-set}
@@ -50,7 +51,9 @@ loop-less c = omega arith
 
 loop-again : tie.Need-loop-again Inv-loop μ-loop
 loop-again c =
-    (omega arith, cleared-more (c .before .loop .m) (c .before .before .args .chart .now) (c .before .loop .chart) (c .before .loop .inv .1))
+    let l = c .before .loop in
+    let more = cleared-more (l .m) (c .before .before .args .chart .now) (l .chart) (l .inv .1) in
+    (omega arith, cc (more, add-comm 14 (16 * l .m), add-comm 15 (16 * l .m), mul-comm 16 (l .m)))
 
 same-length : tie.Need-same-length Inv-loop μ-loop
 same-length c =
