@@ -81,6 +81,9 @@ going-turn {old} {all} {mid} {new} {a} {rest} {whole} {at} {m} g s x =
           ∙ g .bytes;
     }
 
+pub going-as : {old all new rest rest′ : List ℕ} {at e : ℕ} → rest′ ≡ rest → Going old at all new e rest → Going old at all new e rest′
+going-as s g = rw s g
+
 pub going-end : {old all new rest : List ℕ} {at e : ℕ} → Going old at all new e rest → rest ≡ [] → Appends old at all new e
 going-end {old} {all} {new} {rest} {at} {e} g s =
     record {

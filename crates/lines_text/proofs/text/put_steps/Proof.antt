@@ -1,9 +1,10 @@
 -- `text::put_steps` meets its contract: what is written and what is to come make the whole text. The measure is what is left of the bytes.
 use Prim.Native.Nat.{_+_, _*_, _-_, _≤_}
+use native.Mathlib.Nat.{add-comm}
 use native.Mathlib.Omega.{arith}
 use lib.ListN.{length, drop, getD}
 use Rattle.lines_text.specs.Text.{stepLines}
-use Rattle.lines_text.proofs.Appending.{Going, going-start, going-turn, going-end}
+use Rattle.lines_text.proofs.Appending.{Going, going-start, going-turn, going-as, going-end}
 use Rattle.lines_text.proofs.Rows.{steps-turn, steps-end, step-short}
 use Rattle.lines_text.proofs.text.put_steps.Statement.{statement}
 use Rattle.lines_text.proofs.text.put_steps.Tie as tie
@@ -62,7 +63,8 @@ loop-again c =
     let x = c .before .before .put-step .ensures in
     let h : l .s + 4 ≤ length plan = omega arith in
     let w = step-short (getD plan (l .s) 0) (getD plan (l .s + 1) 0) (getD plan (l .s + 2) 0) (getD plan (l .s + 3) 0) in
-    (h, omega (arith, x .size, x .sameLength, l .inv, w), going-turn (l .inv .2) (steps-turn plan (l .s) h) x)
+    let turned = going-turn (l .inv .2) (steps-turn plan (l .s) h) x in
+    (omega arith, omega (arith, x .size, x .sameLength, l .inv, w), going-as (cc (add-comm 4 (l .s))) turned)
 
 same-length : tie.Need-same-length Inv-loop μ-loop
 same-length c = c .before .loop .inv .2 .sameLength

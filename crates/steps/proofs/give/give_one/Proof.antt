@@ -15,15 +15,18 @@ use Rattle.steps.proofs.give.give_one.Statement.{statement}
 use Rattle.steps.proofs.give.give_one.Tie as tie
 
 -- The foot's index is the one to give, so its parts fit, and its number tells the place of its cell.
+same : (c : tie.Else1) → let a = c .before .before .before .before .before .before .args in footFields (a .chart .now) (a .y) .index ≡ a .g
+same c = omega (arith, c .if1 .left)
+
 span : (c : tie.After-number-at) → let a = c .before .before .before .before .before .before .before .before .args in
     let f = footFields (a .chart .now) (a .y) in
     SpanFits (a .z .words) (a .z .symbols) (f .symbol) (f .from) (f .to)
-span c = let q = c .before .before .before .before .before .before .before .before .pre in given-span (q .0) _ _ (q .1) (q .2) (c .before .before .if1 .left) (q .3)
+span c = let q = c .before .before .before .before .before .before .before .before .pre in given-span (q .0) _ _ (q .1) (q .2) (same (c .before .before)) (q .3)
 
 place : (c : tie.After-number-at) → let a = c .before .before .before .before .before .before .before .before .args in
     let f = footFields (a .chart .now) (a .y) in
     c .number-at .result / 8 ≡ cellAt (a .z .symbols) (f .symbol) (f .from) (f .to)
-place c = let q = c .before .before .before .before .before .before .before .before .pre in given-at (q .0) _ _ (q .1) (q .2) (c .before .before .if1 .left) (q .3) (c .number-at .ensures)
+place c = let q = c .before .before .before .before .before .before .before .before .pre in given-at (q .0) _ _ (q .1) (q .2) (same (c .before .before)) (q .3) (c .number-at .ensures)
 
 -- There the table has the positions of the cell's records.
 abbrev continuations : {R : Range} (c : tie.After-number-at) → let a = c .before .before .before .before .before .before .before .before .args in
@@ -60,7 +63,7 @@ slice-read-given c = search needs
 returns : tie.Need-returns
 returns c =
     let q = c .before .before .before .before .before .before .pre in
-    advanced-kept _ (q .5) (given-none (q .0) _ _ (q .1) (q .2) _ _ (c .if1 .taken))
+    advanced-kept _ (q .5) (given-none (q .0) _ _ (q .1) (q .2) _ _ (omega (arith, c .if1 .taken)))
 
 number-at-requires : tie.Need-number-at-requires
 number-at-requires c κs = search needs
@@ -86,7 +89,7 @@ returns-2 c =
     let n = c .before .before .before .before .before .before in
     let R = rangeIn (a .index .now) (n .number-at .result / 8) in
     let e = c .before .before .before .is-covered .ensures in
-    advanced-as (given-each (q .0) _ _ (q .1) (q .2) (n .before .before .if1 .left) (q .3) _ _ R (continuations n refl .stands))
+    advanced-as (given-each (q .0) _ _ (q .1) (q .2) (same (n .before .before)) (q .3) _ _ R (continuations n refl .stands))
     (passed-over (q .0) (q .2) (continuations n refl) (q .5) (q .6) _ (λ x. refl) (c .before .before .before .before .before .own-at .ensures .0) (sym (e .0) ∙ c .if2 .taken) (e .1))
 
 range-of-requires : tie.Need-range-of-requires
@@ -116,7 +119,7 @@ returns-3 : tie.Need-returns-3
 returns-3 c =
     let q = c .before .before .before .before .before .before .before .before .before .before .before .before .before .before .before .before .before .before .before .before .before .before .before .before .before .pre in
     let n = c .before .before .before .before .before .before .before .before .before .before .before .before .before .before .before .before .before in
-    advanced-as (given-each (q .0) _ _ (q .1) (q .2) (n .before .before .if1 .left) (q .3) _ _ (c .before .before .before .before .before .before .before .before .before .before .range-of .result) (continuations n (c .before .before .before .before .before .before .before .before .before .before .range-of .ensures) .stands))
+    advanced-as (given-each (q .0) _ _ (q .1) (q .2) (same (n .before .before)) (q .3) _ _ (c .before .before .before .before .before .before .before .before .before .before .range-of .result) (continuations n (c .before .before .before .before .before .before .before .before .before .before .range-of .ensures) .stands))
     (c .before .before .before .before .before .before .continue-all .ensures)
 
 pub give-one-spec : {M : Type 1} → statement M
