@@ -79,6 +79,7 @@ returns-2 c =
     let read = c .before in
     let part = name-part (now (a .card)) (a .word) (entry .result) (read .wide .result) (zero (c .before .before .before .before .before))
     (place (c .before .before .before)) (size read) in
+    -- Whichever part of the sum comes first.
     let same : 1 + entry .result + read .wide .result ≡ entry .result + 1 + read .wide .result = omega arith in
     cc (part, same)
 

@@ -1,5 +1,5 @@
 -- `entries::entries_equal`: an entry is its first eight bytes and the four after them.
--- As many bytes are the same where their numbers are, so the eights decide where they differ, and else the fours.
+-- As many bytes are the same where their numbers are, so the eights decide where they differ, and else the fours, eight bytes on.
 use Prim.Native.Nat.{_+_}
 use native.Mathlib.Nat.{add-comm}
 use native.Mathlib.Omega.{arith}

@@ -1,7 +1,7 @@
 -- Each way out is a law of the model's test of an action, which the arm of the match knows.
 -- A take has two tests more, that there is an index and that it is the one.
 use native.Mathlib.Omega.{arith}
-use mathlib.Core.Path.{ap}
+use mathlib.Core.Path.{_≡_, ap}
 use borrow.Author.Needs.{needs}
 use Rattle.card.specs.Productions.{actionFrom}
 use Rattle.goals.proofs.FitsLaws.{take-nothing, take-other, take-same, keep-any, give-any}
@@ -11,6 +11,10 @@ use Rattle.goals.proofs.replay.action_fits.Tie as tie
 enum-known-action : tie.Need-enum-known-action
 enum-known-action c = search needs
 
+-- There is an index to take.
+some : (c : tie.Else1) → c .before .before .before .before .args .depth ≡ 0 → ⊥
+some c = omega (arith, c .if1 .left)
+
 returns : tie.Need-returns
 returns c =
     let a = c .before .before .before .before .args in
@@ -19,7 +23,8 @@ returns c =
 returns-2 : tie.Need-returns-2
 returns-2 c =
     let a = c .before .before .before .before .before .args in
-    take-other (a .depth) (a .index) (a .span) (ap actionFrom (c .before .before .before .action .given .1)) (omega (arith, c .before .if1 .left)) (omega (arith, c .if2 .taken))
+    take-other (a .depth) (a .index) (a .span) (ap actionFrom (c .before .before .before .action .given .1)) (some (c .before))
+    (omega (arith, c .if2 .taken))
 
 sub-result : tie.Need-sub-result
 sub-result c = search needs
@@ -36,7 +41,8 @@ add-result c = search needs
 returns-3 : tie.Need-returns-3
 returns-3 c =
     let a = c .before .before .before .before .before .args in
-    take-same (a .depth) (a .index) (a .span) (ap actionFrom (c .before .before .before .action .given .1)) (omega (arith, c .before .if1 .left)) (omega (arith, c .if2 .left))
+    take-same (a .depth) (a .index) (a .span) (ap actionFrom (c .before .before .before .action .given .1)) (some (c .before))
+    (omega (arith, c .if2 .left))
 
 returns-4 : tie.Need-returns-4
 returns-4 c = let a = c .before .before .args in keep-any (a .depth) (a .index) (a .span) (ap actionFrom (c .enum-told .given .1))
