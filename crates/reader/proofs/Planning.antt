@@ -14,11 +14,12 @@ module _ {card chart : List ℕ} {n count : ℕ} {start : Start} (searched : Fou
       let f = subst (Found chart count n) e searched in
       record { accepted = h .accepted; at = h .at; held = h .held; inside = f .place .0; whole = f .place .1; room = h .room; short = h .short }
 
-  pub start-planned : {old new : List ℕ} {m : ℕ} → start ≡ At m
+  pub start-planned : {old new : List ℕ} {m s : ℕ} → start ≡ At m
       → Plans card chart count n old new
-      → PlanOf card chart n count old new (record { number = 0; words = n; items = count; steps = 2 * n - 1 })
-  start-planned {m = m} e plan =
-      record { start = At m; searched = subst (Found chart count n) e searched; answer = refl; plan = plan }
+      → s ≡ 2 * n - 1
+      → PlanOf card chart n count old new (record { number = 0; words = n; items = count; steps = s })
+  start-planned {m = m} e plan steps =
+      record { start = At m; searched = subst (Found chart count n) e searched; answer = rw steps; plan = plan }
 
   pub no-start : {plan : List ℕ} → start ≡ Missing
       → PlanOf card chart n count plan plan (record { number = 25; words = n; items = count; steps = 0 })

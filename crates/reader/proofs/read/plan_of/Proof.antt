@@ -1,5 +1,6 @@
 -- The search for the start decides: its position meets what unfolding asks, and the plan is what unfolding writes.
 -- Where there is no start, the plan room stays as it was. The laws are those of Planning.antt.
+use native.Mathlib.Omega.{arith}
 use borrow.Author.Needs.{needs}
 use Rattle.reader.proofs.Planning.{start-asked, start-planned, no-start}
 use Rattle.reader.proofs.read.plan_of.Statement.{statement}
@@ -32,6 +33,7 @@ returns : tie.Need-returns
 returns c =
     let found = c .before .before .before .before .before in
     start-planned (found .before .before .find-start .ensures) (found .start .given .1) (c .before .before .«unfold» .ensures)
+    (omega arith)
 
 returns-2 : tie.Need-returns-2
 returns-2 c = no-start (c .before .before .find-start .ensures) (c .enum-told .given .1)

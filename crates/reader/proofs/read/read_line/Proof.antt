@@ -58,7 +58,7 @@ plan-of-requires c κs =
     let answered = accepted .before in
     let a = answered .before .before .before .before .before .args in
     charted (now (a .card)) (now (a .line)) (now (a .chart)) (now (a .plan)) (answered .accept-line .result) (answered .accept-line .ensures)
-    (accepted .if1 .left) _ (roomy .if2 .left) (built .build-chart .result) (c .before .before .before .built .given .0 .0)
+    (accepted .if1 .left) _ (omega (arith, roomy .if2 .left)) (built .build-chart .result) (c .before .before .before .built .given .0 .0)
     (c .before .before .before .built .given .1) (built .build-chart .ensures)
 
 enum-told : tie.Need-enum-told
@@ -81,7 +81,7 @@ returns-3 c =
     let answered = accepted .before in
     let a = answered .before .before .before .before .before .args in
     ends-found (now (a .card)) (now (a .line)) (now (a .chart)) (now (a .plan)) (answered .accept-line .result) (answered .accept-line .ensures)
-    (accepted .if1 .left) _ (roomy .if2 .left) (built .build-chart .result) (c .before .before .before .before .before .before .built .given .0 .0)
+    (accepted .if1 .left) _ (omega (arith, roomy .if2 .left)) (built .build-chart .result) (c .before .before .before .before .before .before .built .given .0 .0)
     (c .before .before .before .before .before .before .built .given .1) (built .build-chart .ensures) (c .before .before .plan-of .ensures)
 
 same-length-3 : tie.Need-same-length-3
@@ -95,7 +95,7 @@ returns-4 c =
     let answered = accepted .before in
     let a = answered .before .before .before .before .before .args in
     ends-over (now (a .card)) (now (a .line)) (now (a .chart)) (now (a .plan)) (answered .accept-line .result) (answered .accept-line .ensures)
-    (accepted .if1 .left) _ (roomy .if2 .left) (built .build-chart .result) (c .before .enum-told .given .1)
+    (accepted .if1 .left) _ (omega (arith, roomy .if2 .left)) (built .build-chart .result) (c .before .enum-told .given .1)
     (built .build-chart .ensures) (c .refusal3 .ensures)
 
 pub read-line-spec : {M : Type 1} → statement M
