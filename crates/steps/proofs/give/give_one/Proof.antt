@@ -104,7 +104,7 @@ continue-all-requires c κs =
     let q = s .pre in
     let n = c .before .before .before .before .before .before .before .before .before .before in
     let r = c .before .before .before .range-of .ensures in
-    (q .0, to-below (s .args .chart .now) (s .args .z .base) (q .4) _ r, q .2, continuations n r, right (c .before .before .before .before .before .before .before), q .6)
+    (q .0, omega (arith, to-below (s .args .chart .now) (s .args .z .base) (q .4) _ r), q .2, continuations n r, right (c .before .before .before .before .before .before .before), q .6)
 
 same-length-3 : tie.Need-same-length-3
 same-length-3 c = search needs
