@@ -44,6 +44,7 @@ pub fn all() -> Vec<Workload> {
         dense(60_000),
         overflow,
         limits(),
+        worst_found(),
     ]
 }
 
@@ -160,6 +161,40 @@ fn limits_card() -> CardText {
         nonterminals: 16,
         indices: 8,
         words: letters.map(|last| format!("nurseryrow{last}")).collect(),
+        productions,
+    }
+}
+
+/// The slowest for Read that a search of twenty minutes found, among lines that are read and lines
+/// that no chart holds. It is not a bound.
+fn worst_found() -> Workload {
+    let text = worst_found_card();
+    let line = text.line(&[[0; 7].as_slice(), &[1; 17]].concat());
+    let name = String::from("worst found, 24 words");
+    Workload::new(name, text.bytes(), line, 24)
+}
+
+/// Nearly all items are of `full`, which has all eight indices over two or more of the second word.
+/// Each of the 41 productions that give goes over them anew, for every place to the left of them.
+fn worst_found_card() -> CardText {
+    let [any, second, full] = [0, 1, 2];
+    let mut productions = vec![
+        [0, any, 0, 0, 0, 0],
+        [0, any, 1, 0, 0, 0],
+        [3, any, any, any, 0, 0],
+        [0, second, 1, 0, 0, 0],
+        [3, second, second, second, 0, 0],
+    ];
+    for index in 1..=8 {
+        productions.extend([any, second].map(|foot| [1, full, second, foot, index, 0]));
+    }
+    productions.push([4, full, full, second, 0, 0]);
+    productions.push([3, full, second, full, 0, 0]);
+    productions.extend((0..41).map(|number| [5, any, any, full, number % 8 + 1, 0]));
+    CardText {
+        nonterminals: 3,
+        indices: 8,
+        words: ["coir", "wool"].map(String::from).to_vec(),
         productions,
     }
 }
