@@ -10,7 +10,7 @@ use mathlib.Core.Logic.{_⊎_, inl, inr, ⊎-elim}
 use lib.Dec.{eqb}
 use lib.Pow.{pow-pos, shl-exact}
 use lib.Bits.{bitAnd, bitOr, and-step, or-step, and-zero-r}
-use borrow.Author.Tests.{eq-eqb, ne-eqb}
+use borrow.Author.Tests.{eq-eqb, ne-eqb, le-leb, lt-leb}
 use Rattle.bits.specs.Bits.{bitOf, holdsBit}
 
 pub bitOf-below : (b x : ℕ) → bitOf b x < 2
@@ -90,8 +90,11 @@ ne-test a b h = ap not (ne-eqb a b h)
 pub eq-test : (a b : ℕ) → a ≡ b → not (eqb a b) ≡ false
 eq-test a b h = ap not (eq-eqb a b h)
 
+-- However a test of numbers is written, arithmetic decides it: `omega (arith, tests)`.
+pub ruleset tests = (le-leb, lt-leb, eq-eqb, ne-eqb, ne-test, eq-test)
+
 pub test-bit : (b x : ℕ) → not (eqb (bitAnd x (2 ^ b)) 0) ≡ holdsBit b x
-test-bit b x = ⊎-elim (λ (some, has). rw has (omega (arith, ne-test, some))) (λ (none, has). rw has (omega (arith, eq-test, none))) (bit-decides b x)
+test-bit b x = ⊎-elim (λ (some, has). rw has (omega (arith, tests, some))) (λ (none, has). rw has (omega (arith, tests, none))) (bit-decides b x)
 
 -- One bit more: bit a of `x | (1 << b)`.
 pub holdsBit-more : (a b x : ℕ) → holdsBit a (bitOr x (2 ^ b)) ≡ (eqb a b || holdsBit a x)

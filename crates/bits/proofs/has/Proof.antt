@@ -3,8 +3,7 @@
 use native.Mathlib.Omega.{arith}
 use mathlib.Core.Logic.{⊎-elim}
 use borrow.Author.Needs.{needs}
-use borrow.Author.Tests.{lt-ltb, le-ltb}
-use Rattle.bits.proofs.BitLaws.{bit-beyond, bit-decides, ne-test, eq-test, one-shifted}
+use Rattle.bits.proofs.BitLaws.{bit-beyond, bit-decides, tests, one-shifted}
 use Rattle.bits.proofs.has.Statement.{statement}
 use Rattle.bits.proofs.has.Tie as tie
 
@@ -19,8 +18,8 @@ returns-2 c =
     let a = c .before .args in
     let one = one-shifted (a .b) 32 (omega arith) in
     ⊎-elim
-    (λ (some, has). rw (one, has) (omega (arith, ne-test, lt-ltb, some)))
-    (λ (none, has). rw (one, has) (omega (arith, eq-test, le-ltb, none)))
+    (λ (some, has). rw (one, has) (omega (arith, tests, some)))
+    (λ (none, has). rw (one, has) (omega (arith, tests, none)))
     (bit-decides (a .b) (a .set))
 
 pub has-spec : {M : Type 1} → statement M
