@@ -278,16 +278,18 @@ uint64_t lig_name(const uint8_t *card, size_t card_length, size_t word);
  *
  * Nanoseconds that each call took, measured and not promised. make bench runs the calls on many
  * cards and lines. The longest median that one run saw, on two cores of a virtual machine (AMD
- * EPYC) with other programs running, and the workload that took it:
+ * EPYC) with nothing else running, and the workload that took it:
  *
- *     lig_card_check          806   limits, 780 bytes
- *     lig_read         15,047,427   limits, 23 words
- *     lig_check             4,661   limits, 23 words
- *     lig_pairs             4,674   limits, 23 words
- *     lig_name                811   limits, 780 bytes
+ *     lig_card_check          878   limits, 780 bytes
+ *     lig_read         39,779,659   worst found, 24 words
+ *     lig_check             7,095   limits, 23 words
+ *     lig_pairs             6,906   limits, 23 words
+ *     lig_name                829   limits, 780 bytes
  *
- * "limits" is a card at its limits, under which the line has 59,248 items. Another machine, card or
- * line may take longer. docs/PERFORMANCE.md has the times of all workloads.
+ * "limits" is a card at its limits; "worst found" is the card and line, of 62,469 items, on which a
+ * search found lig_read slowest. Another machine, card or line may take longer. With a shorter chart
+ * room lig_read ends sooner where there are more items than it holds. docs/PERFORMANCE.md has the
+ * times of all workloads.
  */
 #define LIG_STACK_CARD_CHECK 256
 #define LIG_STACK_READ 63872
