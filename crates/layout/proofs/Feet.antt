@@ -28,6 +28,10 @@ module _ (card : List ℕ) (accepted : cardNumber card ≡ 0) where
   derived-on-card (keepStep s l d r) = derived-on-card d
   derived-on-card (giveStep s l d r e) = derived-on-card e
 
+-- So where γ is not 0, what stands after the bar is not what stands there for none.
+pub foot-told : (card : List ℕ) {γ B p q : ℕ} → FootOnCard card (foot γ B p q) → (B ≡ 255) × (p ≡ 0) × (q ≡ 0) → ⊥
+foot-told card f e = omega (arith, f .3, e .2)
+
 -- A record, alone in its 16 bytes, is read back as it was written.
 halves : (x : ℕ) → lowByte x + 256 * highByte x ≡ x
 halves x = omega arith
