@@ -6,7 +6,7 @@ use native.Mathlib.Decide.{decLt}
 use mathlib.Core.Path.{_≡_, refl, sym, _∙_, ap, subst}
 use mathlib.Core.List.{List, [], _∷_, map}
 use mathlib.Core.Option.{none, some}
-use lib.ListN.{length, getElem?, length-map}
+use lib.ListN.{length, getElem?}
 use Rattle.grammar.specs.Lists.{Stands}
 use Rattle.grammar.specs.Rewriting.{Rule, Lexical, Spine}
 use Rattle.grammar.proofs.StandsLaws.{stands-getElem, none-some, some-same}
@@ -14,11 +14,12 @@ use Rattle.layout.specs.Bytes.{counted}
 use Rattle.layout.specs.Card.{maxNonterminals, maxProductions}
 use Rattle.layout.specs.Card.{cardNumber, nonterminalCount, productionCount, production, grammarOf}
 use Rattle.layout.proofs.Accepting.{accepted-counts}
+use Rattle.layout.proofs.CountedLaws.{table-length}
 use Rattle.layout.proofs.RuleLaws.{production-counted, rule-more}
 use Rattle.card.specs.Productions.{ProductionThere}
 use Rattle.chart_model.proofs.Exact.{leftOf}
 use Rattle.steps.specs.Fits.{RuleFits}
-use Rattle.records.proofs.RoomLaws.{length-counted, counted-at}
+use Rattle.records.proofs.RoomLaws.{counted-at}
 use Rattle.chart.specs.Tables.{CardGiven}
 
 -- The first m rules of a card: how many, the one at a place, and what is there.
@@ -26,7 +27,7 @@ abbrev pub firstRules : List ℕ → ℕ → List Rule
 firstRules card m = map (production card) (counted 0 m)
 
 pub rules-length : (card : List ℕ) (m : ℕ) → length (firstRules card m) ≡ m
-rules-length card m = length-map (counted 0 m) (production card) ∙ length-counted 0 m
+rules-length card m = table-length (production card) 0 m
 
 pub rule-there : (card : List ℕ) (m p : ℕ) → p < m → getElem? (firstRules card m) p ≡ some (production card p)
 rule-there card m p h = counted-at (production card) 0 m p h ∙ ap (λ (k : ℕ). some (production card k)) (zero-add p)

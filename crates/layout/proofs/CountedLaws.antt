@@ -3,7 +3,7 @@
 use Prim.Native.Nat.{ℕ, zero, suc, _+_, _<_}
 use native.Mathlib.Nat.{add-zero, add-suc, suc-add, zero-add}
 use native.Mathlib.Omega.{arith}
-use mathlib.Core.Path.{_≡_, refl, ap}
+use mathlib.Core.Path.{_≡_, refl, _∙_, ap}
 use mathlib.Core.List.{List, map}
 use lib.ListN.{length, length-map}
 use Rattle.grammar.specs.Lists.{Stands, here, there}
@@ -17,6 +17,9 @@ length-counted k zero = refl
 length-counted k (suc n) = ap suc (length-counted (suc k) n)
 
 module _ {A : Type 0} (f : ℕ → A) where
+  pub table-length : (k n : ℕ) → length (map f (counted k n)) ≡ n
+  table-length k n = length-map (counted k n) f ∙ length-counted k n
+
   counted-stands : (k n m : ℕ) → m < n → Stands (map f (counted k n)) m (f (k + m))
   counted-stands k zero m h = absurd (omega arith)
   counted-stands k (suc n) zero h = rw add-zero here
@@ -26,7 +29,7 @@ module _ {A : Type 0} (f : ℕ → A) where
   table-stands {n} {m} h = rw zero-add at (counted-stands 0 n m h)
 
   pub stands-below : (n m : ℕ) {x : A} → Stands (map f (counted 0 n)) m x → m < n
-  stands-below n m s = omega (arith, stands-length s, length-map (counted 0 n) f, length-counted 0 n)
+  stands-below n m s = omega (arith, stands-length s, table-length 0 n)
 
   pub stands-there : (n m : ℕ) {x : A} → Stands (map f (counted 0 n)) m x → x ≡ f m
   stands-there n m s = stands-unique s (table-stands (stands-below n m s))

@@ -33,10 +33,10 @@ pub foot-told : (card : List ℕ) {γ B p q : ℕ} → FootOnCard card (foot γ 
 foot-told card f e = omega (arith, f .3, e .2)
 
 -- A record, alone in its 16 bytes, is read back as it was written.
-halves : (x : ℕ) → lowByte x + 256 * highByte x ≡ x
-halves x = omega arith
+pub word-halves : (x : ℕ) → lowByte x + 256 * highByte x ≡ x
+word-halves x = omega arith
 
 pub record-read-back : (card : List ℕ) (A i j : ℕ) (φ : Foot) (p x y z : ℕ) → FootOnCard card φ
     → recordAt (recordBytes (recorded (item A i j φ) p x y z)) 0 ≡ recorded (item A i j φ) p x y z
-record-read-back card A i j bare p x y z f = rw (halves x, halves y, halves z)
-record-read-back card A i j (foot γ B q t) p x y z f = rw (ne-eqb γ 0 (λ e. omega (arith, f .0)), halves x, halves y, halves z)
+record-read-back card A i j bare p x y z f = rw (word-halves x, word-halves y, word-halves z)
+record-read-back card A i j (foot γ B q t) p x y z f = rw (ne-eqb γ 0 (λ e. omega (arith, f .0)), word-halves x, word-halves y, word-halves z)

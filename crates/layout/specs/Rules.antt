@@ -1,4 +1,4 @@
--- What refusal 16 leaves of a rule: its nonterminals are below N, its words below V, and its indices are 1 to X.
+-- What refusal 16 leaves of a rule: its nonterminals are below N, its words below W, and its indices are 1 to X.
 use Prim.Native.Nat.{ℕ, _≤_, _<_}
 use mathlib.Core.List.{List, [], _∷_}
 use Rattle.grammar.specs.Rewriting.{Rule, Lexical, Spine, Action, Take, Keep, Give}

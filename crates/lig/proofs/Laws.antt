@@ -50,6 +50,6 @@ module _ (card : List ℕ) (word : ℕ) where
   pub name-refused : (number : ℕ) → number ≡ nameNumber card word → (number ≡ 0 → ⊥) → number ≡ namePacked (nameAnswer card word)
   name-refused number e n = rw (ne-eqb (nameNumber card word) 0 λ z. n (e ∙ z)) (omega (arith, e))
 
-  pub name-known : {at size : ℕ} → nameNumber card word ≡ 0 → at ≡ entryAt card word → size ≡ spellingLength card word
-      → pack 0 (at + 1) size 0 ≡ namePacked (nameAnswer card word)
-  name-known z e h = rw (eq-eqb (nameNumber card word) 0 z, e, h) refl
+  pub name-known : nameNumber card word ≡ 0
+      → namePacked (nameAnswer card word) ≡ pack 0 (entryAt card word + 1) (spellingLength card word) 0
+  name-known z = rw (eq-eqb (nameNumber card word) 0 z) refl

@@ -3,11 +3,11 @@
 -- n words has at least 2n − 1 bytes.
 use Prim.Native.Nat.{ℕ, suc, _+_, _*_, _≤_, _<_}
 use native.Mathlib.Omega.{arith}
-use mathlib.Core.Path.{_≡_, refl, ap, _∙_}
+use mathlib.Core.Path.{_≡_, refl, ap}
 use mathlib.Core.Bool.{Bool, true, false}
 use mathlib.Core.List.{List, [], _∷_, _++_}
 use lib.Dec.{eqb}
-use lib.ListN.{length, length-append, length-map}
+use lib.ListN.{length, length-append}
 use borrow.Author.Tests.{eqb-true}
 use Rattle.grammar.specs.Lists.{concatMap, Stands, here, there}
 use Rattle.grammar.specs.Rewriting.{Rule}
@@ -16,14 +16,13 @@ use Rattle.grammar.specs.Pairs.{Stretch, placeIn, Pair, pair, pairsOf}
 use Rattle.grammar.proofs.PlanBounds.{StepsWithin, noStep, oneStep, yields-within}
 use Rattle.grammar.proofs.PairsInside.{pairs-inside}
 use Rattle.grammar.proofs.PairsCount.{pairs-half}
-use Rattle.layout.specs.Bytes.{counted}
 use Rattle.layout.specs.Card.{productionCount, production, grammarOf}
 use Rattle.layout.specs.Answers.{inputNumber, wordsIn, Derives}
+use Rattle.layout.proofs.CountedLaws.{table-length}
 use Rattle.layout.proofs.Accepting.{accepted-line, accepted-counts}
 use Rattle.layout.proofs.CardLaws.{card-one-sided}
 use Rattle.layout.proofs.Checking.{derives-length}
 use Rattle.layout.proofs.WordsLength.{words-length}
-use Rattle.records.proofs.RoomLaws.{length-counted}
 use Rattle.lines_text.specs.Text.{readLine}
 use Rattle.lines_text.proofs.Rows.{read-short, refused-short, step-two, pair-two}
 use Rattle.lines.specs.Answer.{stepText, pairText, lineAnswer, TextIf, LineText}
@@ -54,7 +53,7 @@ pairs-length (pair given taken ∷ pairs) h =
     )
 
 rules-count : (card : List ℕ) → length (grammarOf card) ≡ productionCount card
-rules-count card = length-map (counted 0 (productionCount card)) (production card) ∙ length-counted 0 (productionCount card)
+rules-count card = table-length (production card) 0 (productionCount card)
 
 -- A reading, with the counts w and c of words and items.
 reading-length : (card line : List ℕ) (plan : List PlanStep) (w c : ℕ) → inputNumber card line ≡ 0 → Derives card line plan

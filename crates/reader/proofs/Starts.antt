@@ -17,6 +17,7 @@ use Rattle.layout.specs.Card.{cardNumber, grammarOf}
 use Rattle.layout.specs.Records.{chartBytes, recordAt, chartIn, capacity}
 use Rattle.layout.specs.Answers.{wordsIn, lineTest, derivable, startFound}
 use Rattle.layout.proofs.Reading.{line-below}
+use Rattle.layout.proofs.TestLaws.{unless-true}
 use Rattle.layout.proofs.Charts.{chart-count}
 use Rattle.chart.specs.declared.Built.the-variants.{Chart}
 use Rattle.chart.specs.Built.{BuiltRoom}
@@ -86,8 +87,4 @@ module _ (card line old new : List ℕ) (count : ℕ) (accepted : cardNumber car
       absurd (omega arith)
 
   pub start-missing : Found new count (wordsIn line) Missing → startFound card line ≡ false
-  start-missing missing = decided (startFound card line) (start-refuted missing)
-    where
-      decided : (b : Bool) → (b ≡ true → ⊥) → b ≡ false
-      decided true h = absurd (h refl)
-      decided false h = refl
+  start-missing missing = unless-true (startFound card line) λ e. absurd (start-refuted missing e)

@@ -8,7 +8,7 @@ use mathlib.Core.Path.{_≡_, refl, sym, _∙_, ap, ap₂}
 use mathlib.Core.Bool.{Bool, true, false, cond, false≢true}
 use mathlib.Core.List.{List, [], _∷_, _++_, map, append-assoc, append-nil}
 use mathlib.Core.Option.{some}
-use lib.ListN.{length, getD, getElem?, take, drop, length-append, length-drop, length-map, List·getD-append}
+use lib.ListN.{length, getD, getElem?, take, drop, length-append, length-drop, List·getD-append}
 use lib.Seq.{getD-take, take-take, take-at, drop-at, getD-append-add, length-take-le, take-all, paste}
 use borrow.Author.Tests.{eq-eqb, ne-eqb}
 use Rattle.grammar.specs.Items.{Foot, bare, foot}
@@ -19,14 +19,12 @@ use Rattle.grammar.proofs.ListLaws.{length-concatMap}
 use Rattle.grammar.proofs.StandsLaws.{none-some, some-same}
 use Rattle.layout.specs.Bytes.{byteAt, number16At, counted, lowByte, highByte}
 use Rattle.layout.specs.Records.{recordBytes, chartBytes}
+use Rattle.layout.proofs.CountedLaws.{table-length}
+use Rattle.layout.proofs.Feet.{word-halves}
 use Rattle.chart_model.specs.Build.{footIn, footAt}
 use Rattle.records.specs.Room.{asFoot, footThere, recordAt, chartIn, FootFits, footFields, Writable, footNumber, numbered, numberedChart, numberThere}
 
--- A function over places that are counted: how many, one more, at one place, and by another function that agrees there.
-pub length-counted : (k n : ℕ) → length (counted k n) ≡ n
-length-counted k zero = refl
-length-counted k (suc n) = ap suc (length-counted (suc k) n)
-
+-- A function over places that are counted: one more, at one place, and by another function that agrees there.
 pub counted-more : (k n : ℕ) → counted k (suc n) ≡ counted k n ++ ((k + n) ∷ [])
 counted-more k zero = rw add-zero
 counted-more k (suc n) = rw (counted-more (suc k) n, suc-add, add-suc)
@@ -53,7 +51,7 @@ counted-last f n =
 
 -- The chart in a room: its length, one record more, one of its records, the foot of one.
 pub chart-length : (bytes : List ℕ) (n : ℕ) → length (chartIn bytes n) ≡ n
-chart-length bytes n = length-map (counted 0 n) (recordAt bytes) ∙ length-counted 0 n
+chart-length bytes n = table-length (recordAt bytes) 0 n
 
 pub chart-more : (bytes : List ℕ) (n : ℕ) → chartIn bytes (n + 1) ≡ chartIn bytes n ++ (recordAt bytes n ∷ [])
 chart-more bytes n = counted-last (recordAt bytes) n
@@ -131,9 +129,6 @@ abbrev pub written : List ℕ → ℕ → Record → List ℕ
 written old n r = placed old n (recordBytes r)
 
 -- The record that 16 bytes stand for.
-pub word-halves : (x : ℕ) → lowByte x + 256 * highByte x ≡ x
-word-halves x = omega arith
-
 pub read-word : (bytes : List ℕ) (at k v : ℕ) → byteAt bytes (at + k) ≡ lowByte v → byteAt bytes (at + (k + 1)) ≡ highByte v
     → number16At bytes (at + k) ≡ v
 read-word bytes at k v low high = rw (low, add-assoc, high) (word-halves v)

@@ -14,6 +14,7 @@ use Rattle.layout.specs.Bytes.{byteAt}
 use Rattle.grammar.proofs.ListLaws.{in-map, map-in, in-stands, stands-in}
 use Rattle.grammar.proofs.ItemListExact.{among-true, among-mem}
 use Rattle.layout.specs.Records.{recordAt, chartIn, asFoot, footThere}
+use Rattle.layout.proofs.TestLaws.{unless-true}
 use Rattle.layout.proofs.CountedLaws.{table-stands, stands-below, stands-there}
 use Rattle.unfold.specs.declared.Start.the-variants.{At, Missing}
 use Rattle.unfold.specs.Unfold.{startStands, Found}
@@ -88,11 +89,7 @@ module _ (chart : List ℕ) (count n : ℕ) where
   found-at {m} h e = record { number = rw (stands-among m h e); place = (h, e) }
 
   pub found-nowhere : ((m : ℕ) → m < count → itemOf (recordAt chart m) ≡ item 0 0 n bare → ⊥) → Found chart count n Missing
-  found-nowhere none = record { number = rw (decided (startStands chart count n) refutes); place = tt }
+  found-nowhere none = record { number = rw (unless-true (startStands chart count n) λ e. absurd (refutes e)); place = tt }
     where
       refutes : startStands chart count n ≡ true → ⊥
       refutes e = let (m, h, eq) = stands-somewhere e in none m h eq
-
-      decided : (b : Bool) → (b ≡ true → ⊥) → b ≡ false
-      decided true h = absurd (h refl)
-      decided false h = refl

@@ -58,9 +58,13 @@ returns-2 : tie.Need-returns-2
 returns-2 c =
     let at = c .before .before .before in
     let a = at .before .before .before .before .before .args in
-    c .pack .ensures
-    ∙ name-known (now (a .card)) (a .word) (zero (at .before .before)) (place at)
-    (size-at (now (a .card)) (a .word) (at .entry-at .result) (place at) (c .before .before .byte .ensures) (c .before .wide .ensures .0))
+    omega (
+      arith,
+      c .pack .ensures,
+      place at,
+      name-known (now (a .card)) (a .word) (zero (at .before .before)),
+      size-at (now (a .card)) (a .word) (at .entry-at .result) (place at) (c .before .before .byte .ensures) (c .before .wide .ensures .0),
+    )
 
 pub lig-name-spec : {M : Type 1} → statement M
 lig-name-spec =
