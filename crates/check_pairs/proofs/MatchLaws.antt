@@ -24,7 +24,8 @@ use Rattle.goals.specs.declared.replay.StepBytes.{StepBytes}
 use Rattle.goals.proofs.ShownLaws.{tops-length}
 use Rattle.goals.proofs.AdvanceLaws.{rule-there, rule-missing}
 use Rattle.check_pairs.proofs.Paced.{Paced, pacedNone, paced, Waits, takes-rule, matched-rule}
-use Rattle.check_pairs.proofs.Passed.{planOf, Passed, bytes-length, suffix-step, paced-drop, matched-drop}
+use Rattle.layout.proofs.Lengths.{plan-bytes-length, pairs-bytes-length}
+use Rattle.check_pairs.proofs.Passed.{planOf, Passed, suffix-step, paced-drop, matched-drop}
 
 -- A step in front of the rest.
 record Front (g : List Rule) (st : PlanStep) (whole rest : List PlanStep) (R : Rule) : Type 0 where
@@ -88,7 +89,7 @@ module _ (card plan : List ℕ) (x : Passed card plan) where
 
   -- The steps are a quarter of the bytes.
   steps-length : length plan ≡ 4 * length (planOf plan)
-  steps-length = ap length (x .bytes) ∙ bytes-length (planOf plan)
+  steps-length = ap length (x .bytes) ∙ plan-bytes-length (planOf plan)
 
   nothing-left : drop (length plan / 4) (planOf plan) ≡ []
   nothing-left =
@@ -150,11 +151,7 @@ module _ (card plan : List ℕ) (x : Passed card plan) where
         let q = length-append (pairsBytes xs) (drop (2 * count) before) in
         let l : length (take (2 * at .unwritten) before) ≡ 2 * at .unwritten =
         length-take-le (2 * at .unwritten) before (omega (arith, m .total, m .within)) in
-        omega (arith, pairs-length xs, length-drop (2 * count) before, m .total, m .within)
-      where
-        pairs-length : (xs : List Pair) → length (pairsBytes xs) ≡ 2 * length xs
-        pairs-length [] = refl
-        pairs-length (pair a b ∷ xs) = omega (arith, pairs-length xs)
+        omega (arith, pairs-bytes-length xs, length-drop (2 * count) before, m .total, m .within)
 
     pub writing-end : left ≤ 0 → count ≡ length (planPairs card (stepsOf plan)) → room ≡ pairsAfter (planPairs card (stepsOf plan)) before
     writing-end h e =

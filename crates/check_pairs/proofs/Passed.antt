@@ -67,10 +67,6 @@ drop-bytes [] (suc s) = drop-nil (4 * suc s)
 drop-bytes (planStep p i k j ∷ steps) (suc s) =
     let e : 4 * suc s ≡ suc (suc (suc (suc (4 * s)))) = omega arith in rw e (drop-bytes steps s)
 
-pub bytes-length : (steps : List PlanStep) → length (planBytes steps) ≡ 4 * length steps
-bytes-length [] = refl
-bytes-length (planStep p i k j ∷ steps) = omega (arith, bytes-length steps)
-
 pub suffix-step : (plan : List ℕ) (steps : List PlanStep) (s : ℕ) (st : StepBytes) → plan ≡ planBytes steps → 4 * s + 4 ≤ length plan
     → StepAt plan (4 * s) st → drop s steps ≡ stepFrom st ∷ drop (suc s) steps
 suffix-step plan steps s st e h x =

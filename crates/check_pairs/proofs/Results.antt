@@ -18,7 +18,7 @@ use Rattle.layout.proofs.Checking.{check-sound, steps-bytes, derives-length, de
 use Rattle.goals.specs.Goals.{Goal, Standing, next, goalsStart, Tiled}
 use Rattle.goals.specs.Shown.{indicesOf}
 use Rattle.goals.proofs.GoalsTiled.{TiledAt, tiled-start, tiled-few, next-tiled}
-use Rattle.check_pairs.proofs.Passed.{bytes-length}
+use Rattle.layout.proofs.Lengths.{plan-bytes-length}
 
 module _ (card line bytes : List ℕ) (passes : checkNumber card line bytes ≡ 0) where
   -- It is the bytes of 2n − 1 steps, four bytes each, of a leftmost derivation.
@@ -27,7 +27,7 @@ module _ (card line bytes : List ℕ) (passes : checkNumber card line bytes ≡ 
 
   pub passing-bytes : length bytes ≡ planRoom (wordsIn line)
   passing-bytes =
-      let (plan, b, l, d) = passing-steps in ap length b ∙ (bytes-length plan ∙ ap (λ (n : ℕ). 4 * n) l)
+      let (plan, b, l, d) = passing-steps in ap length b ∙ (plan-bytes-length plan ∙ ap (λ (n : ℕ). 4 * n) l)
 
   -- The line has a rewriting derivation.
   pub passing-derivation : HasDerivation card line

@@ -18,7 +18,7 @@ use Rattle.grammar.proofs.Existence.{plan-derivation}
 use Rattle.layout.specs.Card.{grammarOf}
 use Rattle.layout.specs.Line.{numbersOf}
 use Rattle.layout.specs.Steps.{planBytes, stepsOf, andStep, planSteps}
-use Rattle.layout.specs.Answers.{inputNumber, wordsIn, lineTest, Derives, HasDerivation, planPasses, checkNumber, PlanWritten}
+use Rattle.layout.specs.Answers.{inputNumber, wordsIn, lineTest, Derives, HasDerivation, planPasses, checkNumber, PlanFor, PlanWritten}
 use Rattle.layout.proofs.Accepting.{check-accepts, check-of-plan}
 use Rattle.layout.proofs.CardLaws.{card-one-sided}
 use Rattle.layout.proofs.Reading.{count-numbers}
@@ -70,14 +70,11 @@ derives-derivation card line {plan} d =
     plan-derivation (grammarOf card) (numbersOf card line)
     (subst (λ (n : ℕ). LeftmostDerivation (grammarOf card) (Holds (lineTest card line)) n plan) (sym (count-numbers card line)) d)
 
--- A leftmost derivation that is written at the start of a room is what Read promises.
+-- A leftmost derivation is a plan of its line, and written at the start of a room it is what Read promises.
+pub plan-for : (card line : List ℕ) (plan : List PlanStep) → inputNumber card line ≡ 0 → Derives card line plan → PlanFor card line plan
+plan-for card line plan e d =
+    record { derives = d; steps = derives-length card line d; passes = check-complete card line plan e d }
+
 pub plan-written : (card line : List ℕ) {before after : List ℕ} (plan : List PlanStep) → inputNumber card line ≡ 0
     → Derives card line plan → after ≡ planBytes plan ++ drop (4 * length plan) before → PlanWritten card line before after
-plan-written card line plan e d w =
-    record {
-      plan = plan;
-      derives = d;
-      steps = derives-length card line d;
-      passes = check-complete card line plan e d;
-      written = w;
-    }
+plan-written card line plan e d w = record { plan = plan; is-plan = plan-for card line plan e d; written = w }

@@ -6,6 +6,8 @@ pub mod CardLaws
 pub mod CountedLaws
 pub mod RuleLaws
 pub mod Feet
+pub mod Writing
+pub mod Lengths
 pub mod Reading
 pub mod WordsLength
 pub mod Checking

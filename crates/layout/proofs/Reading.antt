@@ -99,3 +99,12 @@ module _ (card line : List ℕ) (chartRoom room : ℕ) where
       ≡ record { number = 0; words = wordsIn line; items = length (derivable card line); steps = planSteps (wordsIn line) }
   derivation-read e enough d =
       simp (eq-eqb _ _ e, le-ltb _ _ (enough .planFits), le-ltb _ _ (enough .chartFits), derivation-found card line d)
+
+  -- So the answer of a line that is read is known whole, and its card, its line and both rooms were passed.
+  pub read-whole : readAnswer card line chartRoom room .number ≡ 0
+      → (inputNumber card line ≡ 0)
+      × (readAnswer card line chartRoom room
+      ≡ record { number = 0; words = wordsIn line; items = length (derivable card line); steps = planSteps (wordsIn line) })
+  read-whole e =
+      let (i, enough, _) = reached 0 (λ x. x) (omega arith) (omega arith) e in
+      (i, derivation-read i enough (read-derivation e))

@@ -112,13 +112,17 @@ planPasses card line (some plan) = passes (grammarOf card) (lineTest card line) 
 abbrev pub checkNumber : List ℕ → List ℕ → List ℕ → ℕ
 checkNumber card line plan = firstRefusal (inputRefusals card line ++ (unless (planPasses card line (stepsOf plan)) 34 ∷ []))
 
--- The plan room after Read. Where the line was read: a leftmost derivation of it, of 2n − 1 steps, which passes Check under the same card
--- and line, and past it what was there; which derivation is free. Otherwise the room is untouched.
-pub record PlanWritten (card line before after : List ℕ) : Type 0 where
-  pub plan : List PlanStep
+-- A plan of the line: a leftmost derivation of it, of 2n − 1 steps, which passes Check under the same card and line.
+pub record PlanFor (card line : List ℕ) (plan : List PlanStep) : Type 0 where
   pub derives : Derives card line plan
   pub steps : length plan ≡ planSteps (wordsIn line)
   pub passes : checkNumber card line (planBytes plan) ≡ 0
+
+-- The plan room after Read. Where the line was read: a plan of it, and past it what was there; which plan is free. Otherwise the room is
+-- untouched.
+pub record PlanWritten (card line before after : List ℕ) : Type 0 where
+  pub plan : List PlanStep
+  pub is-plan : PlanFor card line plan
   pub written : after ≡ planBytes plan ++ drop (4 * length plan) before
 
 abbrev pub PlanAfter : List ℕ → List ℕ → Bool → List ℕ → List ℕ → Type 0

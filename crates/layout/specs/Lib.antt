@@ -5,5 +5,6 @@ pub mod Rules
 pub mod Line
 pub mod Records
 pub mod Steps
+pub mod Written
 pub mod Answers
 pub mod Tomato

@@ -8,23 +8,21 @@ use mathlib.Core.List.{List, [], _∷_, _++_}
 use lib.Dec.{eqb, ltb}
 use lib.ListN.{length, take, drop, length-append}
 use lib.Seq.{take-at}
-use borrow.Author.Tests.{eqb-true, eq-eqb, ne-eqb, le-ltb}
+use borrow.Author.Tests.{eq-eqb, ne-eqb, le-ltb}
 use Rattle.grammar.specs.Lists.{concatMap}
-use Rattle.grammar.specs.Items.{bare}
-use Rattle.grammar.specs.ItemList.{item, among}
 use Rattle.grammar.specs.Plan.{PlanStep, planStep}
 use Rattle.grammar.specs.Pairs.{placeIn, Pair, pair, pairsOf}
 use Rattle.layout.specs.Card.{grammarOf}
-use Rattle.layout.specs.Records.{capacity}
-use Rattle.layout.specs.Steps.{planBytes, pairsBytes, planSteps, planRoom, stepsOf}
-use Rattle.layout.specs.Answers.{inputNumber, wordsIn, derivable, refusal, found, ReadAnswer, readAnswer, planPairs, PairsAnswer, pairsAnswer, checkNumber, PlanAfter, PlanWritten}
-use Rattle.layout.specs.Answers.{Derives}
-use Rattle.layout.proofs.Checking.{steps-bytes, check-complete, derives-length}
+use Rattle.layout.specs.Steps.{planBytes, pairsBytes, stepsOf}
+use Rattle.layout.specs.Answers.{inputNumber, ReadAnswer, readAnswer, planPairs, PairsAnswer, pairsAnswer, checkNumber, Derives}
+use Rattle.layout.proofs.Lengths.{pairs-bytes-length}
+use Rattle.layout.proofs.Checking.{steps-bytes, check-complete}
 use Rattle.layout.proofs.Packing.{read-fits, pairs-fit}
 use Rattle.check_pairs.specs.Paired.{Pairs}
 use Rattle.check_pairs.specs.declared.Paired.{Paired}
 use Rattle.reader.specs.Read.{answerFrom, Reads}
 use Rattle.reader.specs.declared.read.Answer.{Answer}
+use Rattle.reader.proofs.PlanRead.{planned, read-accepted, plan-taken}
 use Rattle.lines_text.specs.Text.{stepLine, stepLines, pairLine, pairLines, readLine, refusedLine, Appends}
 use Rattle.lines_text.proofs.Appending.{appends-then}
 use Rattle.lines.specs.Answer.{stepText, pairText, lineAnswer, planText, TextIf, LineText, Answers}
@@ -37,14 +35,6 @@ step-lines (planStep p i k j ∷ plan) = ap (λ (l : List ℕ). stepLine p i k j
 pair-lines : (pairs : List Pair) → pairLines (pairsBytes pairs) ≡ concatMap pairText pairs
 pair-lines [] = refl
 pair-lines (pair a b ∷ pairs) = ap (λ (l : List ℕ). pairLine (placeIn a) (placeIn b) ++ l) (pair-lines pairs)
-
-steps-length : (plan : List PlanStep) → length (planBytes plan) ≡ 4 * length plan
-steps-length [] = refl
-steps-length (planStep p i k j ∷ plan) = omega (arith, steps-length plan)
-
-pairs-length : (pairs : List Pair) → length (pairsBytes pairs) ≡ 2 * length pairs
-pairs-length [] = refl
-pairs-length (pair a b ∷ pairs) = omega (arith, pairs-length pairs)
 
 -- The pairs of a leftmost derivation: all of them fit the room.
 pairs-when : (b short : Bool) (x : ℕ) (pairs : List Pair) → b ≡ true → short ≡ false
@@ -88,7 +78,7 @@ module _ {card line plan before after : List ℕ} {r : Paired} (p : Pairs card l
   pairs-taken =
       let pairs = pairsAnswer card line plan (length before) .pairs in
       ap (take (2 * r .count)) (p .room)
-      ∙ take-at (pairsBytes pairs) (drop (2 * length pairs) before) (2 * r .count) (omega (arith, pairs-length pairs, p .count))
+      ∙ take-at (pairsBytes pairs) (drop (2 * length pairs) before) (2 * r .count) (omega (arith, pairs-bytes-length pairs, p .count))
       ∙ ap (λ (n : ℕ). pairsBytes (pairsAnswer card line plan n .pairs)) l
 
   pub taken-length : 2 * r .count ≡ length (take (2 * r .count) after)
@@ -97,33 +87,15 @@ module _ {card line plan before after : List ℕ} {r : Paired} (p : Pairs card l
       omega (
         arith,
         p .count,
-        pairs-length pairs,
+        pairs-bytes-length pairs,
         ap length (ap (take (2 * r .count)) (p .room)
-            ∙ take-at (pairsBytes pairs) (drop (2 * length pairs) before) (2 * r .count) (omega (arith, pairs-length pairs, p .count))),
+            ∙ take-at (pairsBytes pairs) (drop (2 * length pairs) before) (2 * r .count) (omega (arith, pairs-bytes-length pairs, p .count))),
       )
 
   pub plan-appends : {old mid new : List ℕ} {at m after′ : ℕ} → Appends old at (stepLines plan) mid m
       → Appends mid m (pairLines (take (2 * r .count) after)) new after′ → Appends old at (planText card line plan) new after′
   plan-appends {mid = mid} {new} {m = m} {after′} a b =
       appends-then a (subst (λ (l : List ℕ). Appends mid m (pairLines l) new after′) pairs-taken b)
-
--- Read's answer in numbers: 0 comes with an accepted line and the steps of its words.
-read-when : (b s o f : Bool) (x n count : ℕ) → eqb x 0 ≡ b
-    → cond b (cond s (refusal 32) (cond o (refusal 31) (found f n count))) (refusal x) .number ≡ 0
-    → (x ≡ 0) × (cond b (cond s (refusal 32) (cond o (refusal 31) (found f n count))) (refusal x) .steps ≡ planSteps n)
-read-when false s o f x n count e z = absurd (false≢true (sym e ∙ eq-eqb x 0 z))
-read-when true true o f x n count e z = absurd (omega arith)
-read-when true false true f x n count e z = absurd (omega arith)
-read-when true false false true x n count e z = (eqb-true x 0 e, refl)
-read-when true false false false x n count e z = absurd (omega arith)
-
-pub line-read : (card line : List ℕ) → lineAnswer card line .number ≡ 0
-    → (inputNumber card line ≡ 0) × (lineAnswer card line .steps ≡ planSteps (wordsIn line))
-line-read card line z =
-    let x = inputNumber card line in
-    let n = wordsIn line in
-    let all = derivable card line in
-    read-when (eqb x 0) (ltb 188 (planRoom n)) (ltb (capacity 64000) (length all)) (among (item 0 0 n bare) all) x n (length all) refl z
 
 module _ {card line oldChart oldPlan newChart newPlan : List ℕ} {r : Answer} (x : Reads card line oldChart oldPlan newChart newPlan r)
     (lc : length oldChart ≡ 64000) (lp : length oldPlan ≡ 188) where
@@ -154,38 +126,17 @@ module _ {card line oldChart oldPlan newChart newPlan : List ℕ} {r : Answer} (
 
   -- A reading.
   module _ (z : r .number ≡ 0) where
-    planned : PlanWritten card line oldPlan newPlan
-    planned = subst (λ (b : Bool). PlanAfter card line b oldPlan newPlan) (eq-eqb (r .number) 0 z) (x .plan)
-
-    plan-taken : (plan : List PlanStep) → Derives card line plan → newPlan ≡ planBytes plan ++ drop (4 * length plan) oldPlan
-        → take (4 * r .steps) newPlan ≡ planBytes plan
-    plan-taken plan d e =
-        let s = line-read card line (sym number-is ∙ z) .1 in
-        ap (take (4 * r .steps)) e
-        ∙ take-at (planBytes plan) (drop (4 * length plan) oldPlan) (4 * r .steps)
-        (omega (arith, steps-length plan, derives-length card line d, steps-is, s))
-
-    pub plan-length : 4 * r .steps ≡ length (take (4 * r .steps) newPlan)
-    plan-length =
-        let plan = planned .plan in
-        let d = planned .derives in
-        let e = planned .written in
-        let s = line-read card line (sym number-is ∙ z) .1 in
-        omega (arith, steps-length plan, derives-length card line d, steps-is, s, ap length (plan-taken plan d e))
-
     shows-plan : LineText card line (readLine (r .words) (r .items) ++ planText card line (take (4 * r .steps) newPlan))
     shows-plan =
-        let plan = planned .plan in
-        let d = planned .derives in
-        let e = planned .written in
-        let i = line-read card line (sym number-is ∙ z) .0 in
+        let plan = planned x z .plan in
+        let d = planned x z .is-plan .derives in
         subst (λ (b : Bool). TextIf b card line (readLine (r .words) (r .items) ++ planText card line (take (4 * r .steps) newPlan)))
         (sym (eq-eqb (lineAnswer card line .number) 0 (sym number-is ∙ z))) (
           plan,
           d,
           ap (λ (a : ReadAnswer). readLine (a .words) (a .items) ++ planText card line (take (4 * r .steps) newPlan)) answer-is
               ∙ ap (λ (l : List ℕ). readLine (lineAnswer card line .words) (lineAnswer card line .items) ++ l)
-              (ap (planText card line) (plan-taken plan d e) ∙ plan-text card line plan i d),
+              (ap (planText card line) (plan-taken x z) ∙ plan-text card line plan (read-accepted x z) d),
         )
 
     pub read-answer : {old mid new : List ℕ} {at m after : ℕ} → Appends old at (readLine (r .words) (r .items)) mid m

@@ -22,11 +22,11 @@ use Rattle.layout.proofs.CountedLaws.{table-length}
 use Rattle.layout.proofs.Accepting.{accepted-line, accepted-counts}
 use Rattle.layout.proofs.CardLaws.{card-one-sided}
 use Rattle.layout.proofs.Checking.{derives-length}
+use Rattle.layout.proofs.Reading.{read-whole}
 use Rattle.layout.proofs.WordsLength.{words-length}
 use Rattle.lines_text.specs.Text.{readLine}
 use Rattle.lines_text.proofs.Rows.{read-short, refused-short, step-two, pair-two}
 use Rattle.lines.specs.Answer.{stepText, pairText, lineAnswer, TextIf, LineText}
-use Rattle.lines.proofs.AnswerLaws.{line-read}
 
 steps-length : {g : List Rule} {n : ℕ} {plan : List PlanStep} → length g < 100 → n < 100 → StepsWithin g n plan
     → length (concatMap stepText plan) ≤ 12 * length plan
@@ -86,6 +86,6 @@ text-length card line text t = by-number (eqb (lineAnswer card line .number) 0) 
         omega (
           arith,
           ap length is,
-          reading-length card line plan (a .words) (a .items) (line-read card line (eqb-true (a .number) 0 e) .0) d,
+          reading-length card line plan (a .words) (a .items) (read-whole card line 64000 188 (eqb-true (a .number) 0 e) .0) d,
         )
     by-number false e is = omega (arith, ap length is, refused-short (lineAnswer card line .number))

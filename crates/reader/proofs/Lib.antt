@@ -4,4 +4,5 @@ pub mod ReadBack
 pub mod Starts
 pub mod Answers
 pub mod Ends
+pub mod PlanRead
 pub mod Planning

@@ -1,4 +1,3 @@
-pub mod Writing
 pub mod Waiting
 pub mod Turns
 pub mod Spines

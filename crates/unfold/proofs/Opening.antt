@@ -16,7 +16,8 @@ use Rattle.card.specs.declared.Production.the-variants as read
 use Rattle.unfold.specs.declared.Node.{Node}
 use Rattle.unfold.specs.declared.Rest.{Rest}
 use Rattle.unfold.specs.declared.Left.the-variants as left
-use Rattle.unfold.specs.Spine.{fromAt, toAt, ruleAt, NodeOf, waiting, CanTake, Fits, GoesOn, stepFor, Wrote, Asked}
+use Rattle.layout.specs.Written.{Wrote}
+use Rattle.unfold.specs.Spine.{fromAt, toAt, ruleAt, NodeOf, waiting, CanTake, Fits, GoesOn, stepFor, Asked}
 use Rattle.unfold.specs.Spine.{Opened, openedWord, openedFirst, openedLast}
 use Rattle.unfold.proofs.Waiting.{waiting-length}
 use Rattle.unfold.proofs.Turns.{Takes, production-below}

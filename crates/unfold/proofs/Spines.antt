@@ -21,8 +21,10 @@ use Rattle.layout.specs.Steps.{stepBytes, planRoom}
 use Rattle.layout.proofs.CardLaws.{card-one-sided}
 use Rattle.unfold.specs.declared.Node.{Node}
 use Rattle.unfold.specs.declared.Rest.{Rest}
-use Rattle.unfold.specs.Spine.{nameAt, fromAt, toAt, lengthAt, ruleAt, NodeOf, waiting, Wrote, Ready, Asked, Unfolded}
-use Rattle.unfold.proofs.Writing.{plan-bytes, plan-join, wrote-length, wrote-then}
+use Rattle.unfold.specs.Spine.{nameAt, fromAt, toAt, lengthAt, ruleAt, NodeOf, waiting, Ready, Asked, Unfolded}
+use Rattle.layout.specs.Written.{Wrote}
+use Rattle.layout.proofs.Writing.{wrote-length, wrote-then}
+use Rattle.layout.proofs.Lengths.{plan-bytes-length, plan-join}
 use Rattle.unfold.proofs.Waiting.{waiting-length}
 use Rattle.layout.proofs.CountedLaws.{table-stands}
 use Rattle.unfold.proofs.Turns.{Part, Parts, Takes, Turn, ofWord, ofFirst, ofLast, step-yields, turn}
@@ -81,7 +83,7 @@ unfolded-next {card} {at} u =
     omega (
       arith,
       plan-length (grammarOf card) (Holds at) (card-one-sided card) (u .yields),
-      plan-bytes (u .steps),
+      plan-bytes-length (u .steps),
       u .wrote .ends,
     )
 

@@ -16,7 +16,7 @@ use Rattle.layout.specs.Steps.{planBytes}
 use Rattle.unfold.specs.Unfold.{Held, Unfoldable, Planned}
 use Rattle.unfold.specs.Spine.{nameAt, fromAt, toAt, alone, Ready, Asked, Unfolded}
 use Rattle.unfold.proofs.Starting.{start-name, start-from, start-to, start-foot}
-use Rattle.unfold.proofs.Writing.{plan-bytes}
+use Rattle.layout.proofs.Lengths.{plan-bytes-length}
 
 pub start-ready : {card : List ℕ} {at : ℕ → ℕ → Bool} {chart : List ℕ} {count m n : ℕ} → Held card at chart count → m < count
     → itemOf (recordAt chart m) ≡ item 0 0 n bare → Ready card at chart count m [] []
@@ -49,7 +49,7 @@ pub start-planned : (chart : List ℕ) (m : ℕ) {card : List ℕ} {at : ℕ →
     → itemOf (recordAt chart m) ≡ item 0 0 n bare → Unfolded card at (nameAt chart m) (fromAt chart m) (toAt chart m) [] old 0 new next
     → Planned card at n old new
 start-planned chart m {old = old} {n = n} {next = next} e u =
-    let size : next ≡ 4 * length (u .steps) = omega (arith, u .wrote .ends, plan-bytes (u .steps)) in
+    let size : next ≡ 4 * length (u .steps) = omega (arith, u .wrote .ends, plan-bytes-length (u .steps)) in
     record {
       steps = u .steps;
       derives = rw (start-name chart m n e, start-from chart m n e, start-to chart m n e) at (u .yields);

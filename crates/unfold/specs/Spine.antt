@@ -14,6 +14,7 @@ use Rattle.layout.specs.Bytes.{byteAt, number16At}
 use Rattle.layout.specs.Card.{grammarOf, production, productionTable, cardNumber}
 use Rattle.layout.specs.Records.{recordAt, footThere, chartIn}
 use Rattle.layout.specs.Steps.{stepBytes, planBytes, planRoom}
+use Rattle.layout.specs.Written.{Wrote}
 use Rattle.card.specs.Productions.{actionFrom}
 use Rattle.card.specs.declared.Action.{Action}
 use Rattle.card.specs.declared.Action.the-variants.{Take, Keep, Give}
@@ -100,12 +101,6 @@ pub record GoesOn (a : Action) (node : Node) (old : List ℕ) (whole : Rest) (ne
 -- The step of a record, split at k.
 abbrev pub stepFor : Node → ℕ → PlanStep
 stepFor node k = planStep (node .production) (node .from) k (node .to)
-
--- The room has these bytes from `here` to `next`, and is else as it was.
-pub record Wrote (old : List ℕ) (here : ℕ) (bytes new : List ℕ) (next : ℕ) : Type 0 where
-  pub ends : next ≡ here + length bytes
-  pub fits : next ≤ length old
-  pub written : new ≡ take here old ++ (bytes ++ drop next old)
 
 -- In a room that holds justified records, the positions pending fit the foot of the record at m and the stack s.
 pub record Ready (card : List ℕ) (at : ℕ → ℕ → Bool) (chart : List ℕ) (count m : ℕ) (s pending : List ℕ) : Type 0 where

@@ -11,7 +11,8 @@ ghost use mathlib.Core.List.{[]};
 ghost use lib.ListN.{length};
 ghost use Rattle.layout.specs.Steps.{stepBytes};
 ghost use Rattle.unfold.specs.Unfold.{Unfoldable, Plans, Found};
-ghost use Rattle.unfold.specs.Spine.{IsStart, NodeOf, alone, Stays, Fits, GoesOn, stepFor, Wrote};
+ghost use Rattle.layout.specs.Written.{Wrote};
+ghost use Rattle.unfold.specs.Spine.{IsStart, NodeOf, alone, Stays, Fits, GoesOn, stepFor};
 ghost use Rattle.unfold.specs.Spine.{Asked, Opened, StepWritten, Unfolds, UnfoldsSpine};
 
 pub enum Start {

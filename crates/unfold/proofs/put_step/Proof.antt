@@ -1,6 +1,6 @@
 -- Four stores in a row are one stretch of four bytes, from `at` to `at + 4`; each store keeps the room's length, so the next one is
 -- within it too.
-use Rattle.unfold.proofs.Writing.{wrote-step}
+use Rattle.layout.proofs.Writing.{wrote-four}
 use native.Mathlib.Omega.{arith}
 use lib.ListN.{length-set}
 use borrow.Author.Needs.{needs}
@@ -35,7 +35,7 @@ same-length : tie.Need-same-length
 same-length c = search needs
 
 returns : tie.Need-returns
-returns c = let a = c .args in wrote-step (a .plan .now) (a .at) (a .node .production) (a .node .from) (a .k) (a .node .to) (c .pre)
+returns c = let a = c .args in wrote-four (a .plan .now) (a .at) (a .node .production) (a .node .from) (a .k) (a .node .to) (c .pre)
 
 pub put-step-spec : {M : Type 1} → statement M
 put-step-spec =

@@ -4,7 +4,8 @@ use native.Mathlib.Omega.{arith}
 use mathlib.Core.Path.{refl}
 use lib.ListN.{length-take}
 use Rattle.lines_text.proofs.Rows.{read-short}
-use Rattle.lines.proofs.AnswerLaws.{steps-few, refused-answer, plan-length, read-answer}
+use Rattle.reader.proofs.PlanRead.{taken-length}
+use Rattle.lines.proofs.AnswerLaws.{steps-few, refused-answer, read-answer}
 use borrow.Author.Needs.{needs}
 use Rattle.lines.proofs.answer.put_answer.Statement.{statement}
 use Rattle.lines.proofs.answer.put_answer.Tie as tie
@@ -36,17 +37,17 @@ mul-size c = record { fits = omega (arith, steps-few (c .before .before .before 
 array-share-prefix-plan : tie.Need-array-share-prefix-plan
 array-share-prefix-plan c =
     let r = c .before .before .before .before .before .before .before .before .read in
-    omega (arith, plan-length (r .ensures) refl refl (c .before .before .before .before .before .if1 .left), length-take (4 * r .result .steps) (r .last .1 .1 .1 .0))
+    omega (arith, taken-length (r .ensures) (c .before .before .before .before .before .if1 .left), length-take (4 * r .result .steps) (r .last .1 .1 .1 .0))
 
 slice-aggregate-put-plan : tie.Need-slice-aggregate-put-plan
-slice-aggregate-put-plan c = plan-length (c .before .before .before .before .before .before .before .before .before .read .ensures) refl refl (c .before .before .before .before .before .before .if1 .left)
+slice-aggregate-put-plan c = taken-length (c .before .before .before .before .before .before .before .before .before .read .ensures) (c .before .before .before .before .before .before .if1 .left)
 
 put-plan-requires : tie.Need-put-plan-requires
 put-plan-requires c κs =
     let r = c .before .before .before .before .before .before .before .before .before .before .read in
     let first = c .before .before .before .before .before .put-read .ensures in (
       omega (arith, first .size, first .sameLength, read-short (r .result .words) (r .result .items), c .before .before .before .before .before .before .before .before .before .before .before .before .before .before .before .before .pre),
-      omega (arith, plan-length (r .ensures) refl refl (c .before .before .before .before .before .before .before .if1 .left), steps-few (r .ensures) refl refl),
+      omega (arith, taken-length (r .ensures) (c .before .before .before .before .before .before .before .if1 .left), steps-few (r .ensures) refl refl),
     )
 
 same-length-2 : tie.Need-same-length-2

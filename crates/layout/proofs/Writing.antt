@@ -5,33 +5,32 @@ use native.Mathlib.Omega.{arith}
 use native.Mathlib.Numerals.{add-one, add-two, add-three}
 use mathlib.Core.Path.{_≡_, refl, sym, _∙_}
 use mathlib.Core.List.{List, [], _∷_, _++_, append-assoc}
-use lib.ListN.{length, take, drop, set, length-append, length-drop}
+use lib.ListN.{length, take, drop, set, length-append, length-drop, take-append-drop}
 use lib.Seq.{length-take-le, take-at, drop-at, drop-drop, sets-eq}
-use Rattle.grammar.specs.Plan.{PlanStep, planStep}
-use Rattle.grammar.proofs.ListLaws.{length-concatMap}
-use Rattle.layout.specs.Steps.{stepBytes, planBytes}
-use Rattle.unfold.specs.Spine.{Wrote}
+use Rattle.layout.specs.Written.{Wrote}
 
--- A plan's bytes.
-step-length : (st : PlanStep) → length (stepBytes st) ≡ 4
-step-length (planStep p i k j) = refl
+pub wrote-none : (old : List ℕ) (here : ℕ) → here ≤ length old → Wrote old here [] old here
+wrote-none old here h = record { ends = omega arith; fits = h; written = sym (take-append-drop here old) }
 
-pub plan-bytes : (steps : List PlanStep) → length (planBytes steps) ≡ 4 * length steps
-plan-bytes steps = let e = length-concatMap stepBytes 4 step-length steps in omega arith
+-- Three stores, and four.
+pub wrote-three : (old : List ℕ) (here a b c : ℕ) → here + 3 ≤ length old
+    → Wrote old here (a ∷ b ∷ c ∷ []) (set (set (set old here a) (here + 1) b) (here + 2) c) (here + 3)
+wrote-three old here a b c h =
+    record {
+      ends = refl;
+      fits = h;
+      written = rw (add-one, add-two)
+          (sets-eq (a ∷ b ∷ c ∷ []) old here h ∙ append-assoc (take here old) (a ∷ b ∷ c ∷ []) (drop (here + 3) old));
+    }
 
-pub plan-join : (steps others : List PlanStep) → planBytes (steps ++ others) ≡ planBytes steps ++ planBytes others
-plan-join [] others = refl
-plan-join (st ∷ steps) others = rw (plan-join steps others) (sym (append-assoc (stepBytes st) (planBytes steps) (planBytes others)))
-
--- The four stores of a step.
-pub wrote-step : (old : List ℕ) (here p i k j : ℕ) → here + 4 ≤ length old
-    → Wrote old here (stepBytes (planStep p i k j)) (set (set (set (set old here p) (here + 1) i) (here + 2) k) (here + 3) j) (here + 4)
-wrote-step old here p i k j h =
+pub wrote-four : (old : List ℕ) (here a b c d : ℕ) → here + 4 ≤ length old
+    → Wrote old here (a ∷ b ∷ c ∷ d ∷ []) (set (set (set (set old here a) (here + 1) b) (here + 2) c) (here + 3) d) (here + 4)
+wrote-four old here a b c d h =
     record {
       ends = refl;
       fits = h;
       written = rw (add-one, add-two, add-three)
-          (sets-eq (p ∷ i ∷ k ∷ j ∷ []) old here h ∙ append-assoc (take here old) (p ∷ i ∷ k ∷ j ∷ []) (drop (here + 4) old));
+          (sets-eq (a ∷ b ∷ c ∷ d ∷ []) old here h ∙ append-assoc (take here old) (a ∷ b ∷ c ∷ d ∷ []) (drop (here + 4) old));
     }
 
 module _ {old bytes mid : List ℕ} {here next : ℕ} (w : Wrote old here bytes mid next) where
@@ -41,7 +40,7 @@ module _ {old bytes mid : List ℕ} {here next : ℕ} (w : Wrote old here bytes 
   front : length (take here old ++ bytes) ≡ next
   front = let e = w .ends in let l = length-take-le here old here-inside in simp length-append (omega arith)
 
-  wrote-front : take next mid ≡ take here old ++ bytes
+  pub wrote-front : take next mid ≡ take here old ++ bytes
   wrote-front =
       rw (w .written, ← append-assoc (take here old) bytes (drop next old))
       (take-at (take here old ++ bytes) (drop next old) next front)
