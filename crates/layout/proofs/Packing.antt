@@ -57,8 +57,8 @@ passing-pairs-half card line bytes e =
     let (e₁, plan, e₂, d) = check-sound card line bytes e in
     rw (e₂, steps-bytes plan) (pairs-half (card-one-sided card) d)
 
-pairs-few : (card line bytes : List ℕ) → checkNumber card line bytes ≡ 0 → length (planPairs card (stepsOf bytes)) ≤ 47
-pairs-few card line bytes e =
+pub passing-pairs-few : (card line bytes : List ℕ) → checkNumber card line bytes ≡ 0 → length (planPairs card (stepsOf bytes)) ≤ 11
+passing-pairs-few card line bytes e =
     omega (arith, passing-pairs-half card line bytes e, accepted-line card line (check-sound card line bytes e .0) .most-words)
 
 pub record PairsFit (r : PairsAnswer) : Type 0 where
@@ -77,5 +77,6 @@ pairs-fit card line plan room = go (eqb (checkNumber card line plan) 0) refl
         → PairsFit (cond b (pairsWithin (planPairs card (stepsOf plan)) room) (record { number = checkNumber card line plan; pairs = [] }))
     go true e =
         let pairs = planPairs card (stepsOf plan) in
-        within-fit (ltb room (2 * length pairs)) pairs (pairs-few card line plan (eqb-true (checkNumber card line plan) 0 e))
+        let few = passing-pairs-few card line plan (eqb-true (checkNumber card line plan) 0 e) in
+        within-fit (ltb room (2 * length pairs)) pairs (omega arith)
     go false e = record { number = check-small card line plan; count = omega arith }

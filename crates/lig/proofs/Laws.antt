@@ -1,5 +1,5 @@
--- A packed answer says what the calls below it say: each part fits 16 bits, so the number is read back from the lowest ones.
-use Prim.Native.Nat.{ℕ, _+_, _*_, _%_, _^_, _≤_, _<_}
+-- A packed answer says what the calls below it say: each part fits its bits, so it is read back from them.
+use Prim.Native.Nat.{ℕ, _+_, _*_, _/_, _%_, _^_, _≤_, _<_}
 use native.Mathlib.Omega.{arith}
 use mathlib.Core.Path.{_≡_, refl, sym, _∙_, ap, subst}
 use mathlib.Core.List.{List}
@@ -14,7 +14,10 @@ use Rattle.reader.specs.Read.{answerFrom, Reads}
 use Rattle.reader.specs.declared.read.Answer.{Answer}
 use Rattle.check_pairs.specs.Paired.{Pairs}
 use Rattle.check_pairs.specs.declared.Paired.{Paired}
-use Rattle.lig.specs.Exports.{numberIn, ReadPacked, PairsPacked}
+use Rattle.sheet.specs.Sheet.{packSheet}
+use Rattle.sheet.specs.Promise.{Sheet}
+use Rattle.sheet.proofs.Fits.{sheet-fits}
+use Rattle.lig.specs.Exports.{numberIn, ReadPacked, PairsPacked, lineIn, recordsIn, SheetPacked}
 
 pub number-packed : (a b c d : ℕ) → a < 65536 → numberIn (pack a b c d) ≡ a
 number-packed a b c d h = omega arith
@@ -53,3 +56,28 @@ module _ (card : List ℕ) (word : ℕ) where
   pub name-known : nameNumber card word ≡ 0
       → namePacked (nameAnswer card word) ≡ pack 0 (entryAt card word + 1) (spellingLength card word) 0
   name-known z = rw (eq-eqb (nameNumber card word) 0 z) refl
+
+-- A sheet's parts, read back.
+module _ (number line records : ℕ) (h : number < 65536) (k : line < 256) (m : records < 1048576) where
+  number-back : numberIn (packSheet number line records) ≡ number
+  number-back = omega arith
+
+  line-back : lineIn (packSheet number line records) ≡ line
+  line-back = omega arith
+
+  records-back : recordsIn (packSheet number line records) ≡ records
+  records-back = omega arith
+
+pub sheet-packed : {card sheet oldChart oldOutput newChart newOutput : List ℕ} {number line records : ℕ}
+    → Sheet card sheet oldChart oldOutput newChart newOutput number line records
+    → SheetPacked card sheet oldChart oldOutput newChart newOutput (packSheet number line records)
+sheet-packed {card} {sheet} {oldChart} {oldOutput} {newChart} {newOutput} {number} {line} {records} p =
+    let (h, k, m) = sheet-fits p in
+    let r = packSheet number line records in
+    let n-is = number-back number line records (omega arith) (omega arith) (omega arith) in
+    let l-is = line-back number line records (omega arith) (omega arith) (omega arith) in
+    let c-is = records-back number line records (omega arith) (omega arith) (omega arith) in
+    record {
+      says = rw (n-is, l-is, c-is) p;
+      packed = rw (n-is, l-is, c-is) refl;
+    }

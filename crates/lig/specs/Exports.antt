@@ -1,11 +1,13 @@
--- What Read and Pairs promise a caller who sees one 64-bit number: the packed answer, and every byte of the lent rooms.
-use Prim.Native.Nat.{ℕ, _%_, _^_}
+-- What Read, Pairs and a sheet promise a caller who sees one 64-bit number: the packed answer, and every byte of the lent rooms.
+use Prim.Native.Nat.{ℕ, _/_, _%_, _^_}
 use mathlib.Core.Path.{_≡_}
 use mathlib.Core.List.{List}
 use lib.Dec.{eqb}
 use lib.ListN.{length}
 use Rattle.layout.specs.Answers.{inputNumber, readAnswer, readPacked, RoomEnough, HasDerivation, chartState, ChartAfter, PlanAfter}
 use Rattle.layout.specs.Answers.{pairsAnswer, pairsPacked, pairsAfter}
+use Rattle.sheet.specs.Sheet.{packSheet}
+use Rattle.sheet.specs.Promise.{Sheet}
 
 -- The number of a packed answer: its lowest 16 bits.
 abbrev pub numberIn : ℕ → ℕ
@@ -26,3 +28,15 @@ pub record ReadPacked (card line oldChart oldPlan newChart newPlan : List ℕ) (
 pub record PairsPacked (card line plan before after : List ℕ) (r : ℕ) : Type 0 where
   pub answer : r ≡ pairsPacked (pairsAnswer card line plan (length before))
   pub room : after ≡ pairsAfter (pairsAnswer card line plan (length before) .pairs) before
+
+-- A sheet's line and its count of records: the 8 bits and the 20 bits above the number.
+abbrev pub lineIn : ℕ → ℕ
+lineIn r = r / 2 ^ 16 % 2 ^ 8
+
+abbrev pub recordsIn : ℕ → ℕ
+recordsIn r = r / 2 ^ 24 % 2 ^ 20
+
+pub record SheetPacked (card sheet oldChart oldOutput newChart newOutput : List ℕ) (r : ℕ) : Type 0 where
+  pub says : Sheet card sheet oldChart oldOutput newChart newOutput (numberIn r) (lineIn r) (recordsIn r)
+  -- and every other bit is 0
+  pub packed : r ≡ packSheet (numberIn r) (lineIn r) (recordsIn r)

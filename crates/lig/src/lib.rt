@@ -1,4 +1,4 @@
-// The five calls for C (document 01, "Check, pairs, name"): numbers and byte slices in, each answer packed in one u64.
+// The calls for C (document 01, "Check, pairs, name", and document 02): numbers and byte slices in, each answer packed in one u64.
 use card::Card;
 use octets::byte;
 use octets::wide;
@@ -7,7 +7,8 @@ ghost use Prim.Native.Nat.{_≤_, _<_};
 ghost use Rattle.layout.specs.Card.{cardNumber};
 ghost use Rattle.layout.specs.Answers.{checkNumber, nameAnswer, namePacked};
 ghost use Rattle.layout.specs.Answers as answers;
-ghost use Rattle.lig.specs.Exports.{ReadPacked, PairsPacked};
+ghost use Rattle.sheet.specs.Sheet.{packSheet};
+ghost use Rattle.lig.specs.Exports.{ReadPacked, PairsPacked, SheetPacked};
 
 // 16 bits each from the low end.
 fn pack(a: u64, b: usize, c: usize, d: usize) -> u64
@@ -17,6 +18,15 @@ fn pack(a: u64, b: usize, c: usize, d: usize) -> u64
     let low = a + (b as u64) * 65536;
     let high = (c as u64) + (d as u64) * 65536;
     low + high * 4294967296
+}
+
+// 16 bits, 8 bits and 20 bits from the low end.
+fn pack_sheet(number: u64, line: u8, records: usize) -> u64
+    requires { ⌜ (number < 65536) × (records < 1048576) ⌝ }
+    ensures { λ r. ⌜ r ≡ packSheet number line records ⌝ }
+{
+    let low = number + (line as u64) * 65536;
+    low + (records as u64) * 16777216
 }
 
 #[no_mangle]
@@ -61,4 +71,13 @@ pub extern "C" fn lig_name(card: &[u8], word: usize) -> u64
     }
     let at = Card::of(card).entry_at(word);
     pack(0, at + 1, wide(byte(card, at)), 0)
+}
+
+#[no_mangle]
+pub extern "C" fn lig_sheet(card: &[u8], sheet: &[u8], chart: &mut [u8], output: &mut [u8]) -> u64
+    ensures { λ r. ⌜ SheetPacked (now (card .entry)) (now (sheet .entry))
+        (now (chart .entry)) (now (output .entry)) (now (chart .exit)) (now (output .exit)) r ⌝ }
+{
+    let a = sheet::read_sheet(card, sheet, chart, output);
+    pack_sheet(a.number, a.line, a.records)
 }

@@ -1,13 +1,14 @@
--- The lines of an input, from the bytes passed and those still to come.
+-- The lines of an input, from the bytes passed and those still to come, and how many they are.
 use Prim.Native.Nat.{ℕ, zero, suc, _+_, _-_, _≤_, _<_}
 use native.Mathlib.Numerals.{add-one}
 use native.Mathlib.Omega.{arith}
 use mathlib.Core.Path.{_≡_, refl, sym, _∙_, ap}
+use mathlib.Core.Bool.{Bool, true, false, cond}
 use mathlib.Core.List.{List, [], _∷_, _++_, append-nil}
-use lib.Dec.{eqb}
+use lib.Dec.{eqb, leb}
 use lib.ListN.{length, take, drop, getD, length-drop, drop-of-length-le}
 use lib.Seq.{take-suc, drop-cons, getD-drop, take-all}
-use borrow.Author.Tests.{eq-eqb, ne-eqb}
+use borrow.Author.Tests.{eq-eqb, ne-eqb, le-leb, lt-leb}
 use Rattle.split.specs.Lines.{newline, inFront, linesOf, LineEnds}
 
 -- Several bytes in front of the first line.
@@ -83,3 +84,38 @@ ended-last {input} {at} {i} p s h =
       first = p .before ∙ rw (drop-of-length-le input h, drop-of-length-le input {i = i + 1} (omega arith))
           (front-none (take (i - at) (drop at input)) (omega arith));
     }
+
+-- Bytes have a line.
+front-some : (b : ℕ) (lines : List (List ℕ)) → 0 < length (inFront b lines)
+front-some b [] = omega arith
+front-some b (line ∷ lines) = omega arith
+
+some-line : (bytes : List ℕ) → 0 < length bytes → 0 < length (linesOf bytes)
+some-line [] h = absurd (omega arith)
+some-line (b ∷ bytes) h = either (eqb b newline)
+  where
+    either : (t : Bool) → 0 < length (cond t ([] ∷ linesOf bytes) (inFront b (linesOf bytes)))
+    either true = omega arith
+    either false = front-some b (linesOf bytes)
+
+-- How many lines: so many are passed, and the others start at `next`.
+pub record Counted (input : List ℕ) (most count next : ℕ) : Type 0 where
+  pub total : length (linesOf input) ≡ count + length (linesOf (drop next input))
+  pub within : count ≤ most
+
+pub counted-none : (input : List ℕ) (most : ℕ) → Counted input most 0 0
+counted-none input most = record { total = omega arith; within = omega arith }
+
+module _ {input : List ℕ} {most count next : ℕ} (s : Counted input most count next) where
+  pub counted-more : {end : ℕ} → count < most → LineEnds input next end → Counted input most (count + 1) (end + 1)
+  counted-more h l = record { total = omega (arith, s .total, ap length (l .first)); within = omega arith }
+
+  pub too-many : most ≤ count → next < length input → false ≡ leb (length (linesOf input)) most
+  too-many e h =
+      let some = some-line (drop next input) (omega (arith, length-drop next input)) in
+      sym (lt-leb (length (linesOf input)) most (omega (arith, s .total, some)))
+
+  pub all-counted : length input ≤ next → true ≡ leb (length (linesOf input)) most
+  all-counted h =
+      let z : length (linesOf (drop next input)) ≡ 0 = ap (λ (l : List ℕ). length (linesOf l)) (drop-of-length-le input h) in
+      sym (le-leb (length (linesOf input)) most (omega (arith, s .total, s .within)))

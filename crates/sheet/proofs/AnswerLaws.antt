@@ -1,0 +1,141 @@
+-- What a sheet's answer says, from the definitions alone: 0 that every line was read, 25 that the given line has no derivation. 32 is never
+-- given, and a sheet of orders with room enough is accepted.
+use Prim.Native.Nat.{ℕ, _+_, _*_, _≤_, _<_}
+use native.Mathlib.Omega.{arith}
+use mathlib.Core.Path.{_≡_, refl, sym, _∙_, ap, subst}
+use mathlib.Core.Logic.{_⊎_, inl, inr}
+use mathlib.Core.Bool.{Bool, true, false, cond, false≢true}
+use mathlib.Core.List.{List, [], _∷_, _++_, List·Memᴰ, List·Memᴰ·head, List·Memᴰ·tail}
+use mathlib.Core.Option.{Option, none, some}
+use lib.Dec.{eqb, ltb}
+use lib.ListN.{length, getD, length-append}
+use lib.Seq.{getD-append-seam}
+use borrow.Author.Tests.{eqb-true, eqb-false, eq-eqb, ne-eqb, le-ltb}
+use Rattle.grammar.specs.Plan.{PlanStep}
+use Rattle.grammar.specs.ItemList.{item, among}
+use Rattle.grammar.specs.Items.{bare}
+use Rattle.layout.specs.Steps.{planRoom}
+use Rattle.layout.specs.Answers.{inputNumber, wordsIn, derivable, refusal, found, outnumber, ReadAnswer, readAnswer, HasDerivation}
+use Rattle.layout.proofs.RefusalLaws.{first-most, first-other}
+use Rattle.layout.proofs.Accepting.{accepted-line, input-small}
+use Rattle.layout.proofs.Reading.{no-reading, derivation-read}
+use Rattle.split.specs.Lines.{linesOf}
+use Rattle.sheet.specs.Sheet.{sheetRefusals, sheetNumber, ownPlanRoom, readNumber, Course, course, sheetCourse}
+use Rattle.sheet.specs.Sheet.{SheetRecord, SheetAnswer, refusedAt, recordsWithin, recordsFrom, endAnswer, sheetAnswer}
+use Rattle.sheet.specs.Promise.{Order, lineAt}
+use Rattle.sheet.proofs.CourseLaws.{AllRead, no-line, one-line, course-all, Went, to-end, up-to, went}
+
+-- A line's number is never 32: the reader's own plan room is enough for 24 words.
+no-short : (b s o f : Bool) (x n count : ℕ) → x ≤ 24 → (b ≡ true → s ≡ false)
+    → cond b (cond s (refusal 32) (cond o (refusal 31) (found f n count))) (refusal x) .number ≡ 32 → ⊥
+no-short false s o f x n count h k e = omega arith
+no-short true true o f x n count h k e = false≢true (sym (k refl))
+no-short true false true f x n count h k e = omega arith
+no-short true false false true x n count h k e = omega arith
+no-short true false false false x n count h k e = omega arith
+
+pub never-short : (card : List ℕ) (chartRoom : ℕ) (line : List ℕ) → readNumber card chartRoom line ≡ 32 → ⊥
+never-short card chartRoom line =
+    let x = inputNumber card line in
+    let n = wordsIn line in
+    let all = derivable card line in
+    no-short (eqb x 0) (ltb ownPlanRoom (planRoom n)) (outnumber all chartRoom) (among (item 0 0 n bare) all) x n (length all)
+    (input-small card line)
+    (λ e. le-ltb ownPlanRoom (planRoom n) (omega (arith, accepted-line card line (eqb-true x 0 e) .most-words)))
+
+-- The records' own numbers.
+within-number : (records : List SheetRecord) (room : ℕ) → (recordsWithin records room .number ≡ 0) ⊎ (recordsWithin records room .number ≡ 33)
+within-number records room = by-test (ltb room (3 * length records))
+  where
+    by-test : (b : Bool)
+        → (cond b (refusedAt 33 0) (record { number = 0; line = 0; records = records }) .number ≡ 0)
+        ⊎ (cond b (refusedAt 33 0) (record { number = 0; line = 0; records = records }) .number ≡ 33)
+    by-test true = inr refl
+    by-test false = inl refl
+
+-- Of any numbers of lines.
+module _ (number : List ℕ → ℕ) (records : List SheetRecord) (room : ℕ) where
+  abbrev ended : Course → SheetAnswer
+  ended c = endAnswer number (length (c .read)) (c .failing) records room
+
+  zero-all : {lines : List (List ℕ)} {c : Course} → Went number lines c → ended c .number ≡ 0 → c .read ≡ lines
+  zero-all (to-end a) e = refl
+  zero-all (up-to read line others a ne) e = absurd (ne e)
+
+  -- A number that no records give is that of the line whose place is given.
+  other-line : {lines : List (List ℕ)} {c : Course} (x : ℕ) → Went number lines c → (x ≡ 0 → ⊥) → (x ≡ 33 → ⊥) → ended c .number ≡ x
+      → number (getD lines (ended c .line) []) ≡ x
+  other-line x (to-end a) n0 n33 e =
+      absurd (elim (within-number records room) [ inl z ↦ n0 (sym e ∙ z) | inr z ↦ n33 (sym e ∙ z) ])
+  other-line x (up-to read line others a ne) n0 n33 e = ap number (getD-append-seam read line others []) ∙ e
+
+module _ (card sheet : List ℕ) (chartRoom room : ℕ) (plans : List (List PlanStep)) where
+  abbrev number : List ℕ → ℕ
+  number = readNumber card chartRoom
+
+  abbrev records : List SheetRecord
+  records = recordsFrom card 0 plans
+
+  -- Refused before any line.
+  pub refused-answer : (sheetNumber card sheet ≡ 0 → ⊥) → sheetAnswer card sheet chartRoom room plans ≡ refusedAt (sheetNumber card sheet) 0
+  refused-answer ne = rw (ne-eqb (sheetNumber card sheet) 0 ne)
+
+  -- Not refused: the lines decide.
+  pub lines-course : sheetNumber card sheet ≡ 0 → sheetCourse card sheet chartRoom ≡ course number (linesOf sheet)
+  lines-course z = rw (eq-eqb (sheetNumber card sheet) 0 z)
+
+  pub lines-answer : sheetNumber card sheet ≡ 0
+      → sheetAnswer card sheet chartRoom room plans ≡ ended number records room (course number (linesOf sheet))
+  lines-answer z = rw (eq-eqb (sheetNumber card sheet) 0 z)
+
+  by-number : (x : ℕ) {P : Type 0} → (sheetNumber card sheet ≡ x → sheetNumber card sheet ≡ 0)
+      → (sheetNumber card sheet ≡ 0 → P) → sheetAnswer card sheet chartRoom room plans .number ≡ x → P
+  by-number x {P} f g e = by-test (eqb (sheetNumber card sheet) 0) refl
+    where
+      by-test : (b : Bool) → eqb (sheetNumber card sheet) 0 ≡ b → P
+      by-test true t = g (eqb-true (sheetNumber card sheet) 0 t)
+      by-test false t =
+          let ne = eqb-false (sheetNumber card sheet) 0 t in
+          absurd (ne (f (sym (ap (λ (a : SheetAnswer). a .number) (refused-answer ne)) ∙ e)))
+
+  pub zero-reads-all : sheetAnswer card sheet chartRoom room plans .number ≡ 0
+      → sheetCourse card sheet chartRoom .read ≡ linesOf sheet
+  zero-reads-all e =
+      by-number 0 (λ z. z)
+      (λ z. ap (λ (c : Course). c .read) (lines-course z)
+      ∙ zero-all number records room (went number (linesOf sheet))
+      (sym (ap (λ (a : SheetAnswer). a .number) (lines-answer z)) ∙ e)) e
+
+  line-has : (x : ℕ) → (sheetNumber card sheet ≡ x → sheetNumber card sheet ≡ 0) → (x ≡ 0 → ⊥) → (x ≡ 33 → ⊥)
+      → sheetAnswer card sheet chartRoom room plans .number ≡ x
+      → number (lineAt sheet (sheetAnswer card sheet chartRoom room plans .line)) ≡ x
+  line-has x f n0 n33 e =
+      by-number x f
+      (λ z. ap (λ (a : SheetAnswer). number (lineAt sheet (a .line))) (lines-answer z)
+      ∙ other-line number records room x (went number (linesOf sheet)) n0 n33
+      (sym (ap (λ (a : SheetAnswer). a .number) (lines-answer z)) ∙ e)) e
+
+  pub refutes : sheetAnswer card sheet chartRoom room plans .number ≡ 25
+      → HasDerivation card (lineAt sheet (sheetAnswer card sheet chartRoom room plans .line)) → ⊥
+  refutes e =
+      no-reading card (lineAt sheet (sheetAnswer card sheet chartRoom room plans .line)) chartRoom ownPlanRoom
+      (line-has 25 (λ y. absurd (first-other 24 (sheetRefusals card sheet) refl y)) (omega arith) (omega arith) e)
+
+  pub own-room-enough : sheetAnswer card sheet chartRoom room plans .number ≡ 32 → ⊥
+  own-room-enough e =
+      never-short card chartRoom (lineAt sheet (sheetAnswer card sheet chartRoom room plans .line))
+      (line-has 32 (λ y. absurd (first-other 31 (sheetRefusals card sheet) refl y)) (omega arith) (omega arith) e)
+
+  orders-read : (lines : List (List ℕ)) → ((k : List ℕ) → List·Memᴰ k lines → Order card chartRoom k) → AllRead number lines
+  orders-read [] h = no-line
+  orders-read (line ∷ lines) h =
+      let o = h line (List·Memᴰ·head refl) in
+      one-line (ap (λ (a : ReadAnswer). a .number) (derivation-read card line chartRoom ownPlanRoom (o .accepted) (o .enough) (o .derivation)))
+      (orders-read lines (λ k m. h k (List·Memᴰ·tail m)))
+
+  pub orders-accepted : sheetNumber card sheet ≡ 0 → ((k : List ℕ) → List·Memᴰ k (linesOf sheet) → Order card chartRoom k)
+      → 3 * length records ≤ room → sheetAnswer card sheet chartRoom room plans .number ≡ 0
+  orders-accepted z h fits =
+      ap (λ (a : SheetAnswer). a .number)
+      (lines-answer z ∙ ap (ended number records room) (course-all (orders-read (linesOf sheet) h)))
+      ∙ rw (le-ltb room (3 * length records) fits) refl

@@ -1,0 +1,9 @@
+pub mod Placing
+pub mod RecordLaws
+pub mod CourseLaws
+pub mod ReadingLaws
+pub mod AddLaws
+pub mod Handing
+pub mod AnswerLaws
+pub mod Outcome
+pub mod Fits
