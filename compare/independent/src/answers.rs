@@ -47,3 +47,23 @@ impl NameAnswer {
         }
     }
 }
+
+/// Sheet: the number (0 = all lines are read), the line that it is about, how many records were
+/// written and how many pairs were dropped.
+#[derive(Clone, Copy, Debug, Default, PartialEq, Eq)]
+pub struct SheetAnswer {
+    pub number: u16,
+    pub line: u8,
+    pub records: u32,
+    pub dropped: u32,
+}
+
+impl SheetAnswer {
+    pub fn refused(number: u16, line: u8) -> Self {
+        SheetAnswer {
+            number,
+            line,
+            ..SheetAnswer::default()
+        }
+    }
+}

@@ -1,12 +1,14 @@
-//! The five calls, made for speed: a chart parser with no allocation that writes only to lent
+//! The six calls, made for speed: a chart parser with no allocation that writes only to lent
 //! rooms and works with the same lengths as the library it is measured against.
 
 mod build;
 mod bytes;
 mod card;
+mod cut;
 mod follow;
 mod line;
 mod record;
+mod sheet;
 mod tables;
 mod unfold;
 mod unset;
@@ -17,6 +19,8 @@ use build::MOST_ITEMS;
 use card::Card;
 use follow::Pairs;
 use line::Words;
+pub use sheet::sheet;
+use uses::ProductionSets;
 
 /// 0, or the card's refusal.
 pub fn card_check(card: &[u8]) -> u16 {
@@ -25,7 +29,11 @@ pub fn card_check(card: &[u8]) -> u16 {
 
 pub fn read(card: &[u8], line: &[u8], chart: &mut [u8], plan: &mut [u8]) -> ReadAnswer {
     accepted(card, line)
-        .and_then(|(card, words)| read_words(&card, words.numbers(), chart, plan))
+        .and_then(|(card, words)| {
+            let mut sets = ProductionSets::empty();
+            sets.add_all(&card);
+            read_words(&card, &sets, words.numbers(), chart, plan)
+        })
         .unwrap_or_else(ReadAnswer::refused)
 }
 
@@ -37,6 +45,7 @@ fn accepted<'a>(card: &'a [u8], line: &[u8]) -> Result<(Card<'a>, Words), u16> {
 
 fn read_words(
     card: &Card,
+    sets: &ProductionSets,
     words: &[u8],
     chart: &mut [u8],
     plan: &mut [u8],
@@ -48,7 +57,7 @@ fn read_words(
     }
     let records = chart.as_chunks_mut::<16>().0;
     let held = records.len().min(MOST_ITEMS);
-    let Ok(built) = build::build(card, words, &mut records[..held]) else {
+    let Ok(built) = build::build(card, sets, words, &mut records[..held]) else {
         chart.fill(0);
         return Err(31);
     };

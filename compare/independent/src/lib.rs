@@ -1,10 +1,11 @@
-//! The order reader of document 01, written a second time and in several ways:
+//! The order reader of document 01, with the sheets of document 02, written a second time and in
+//! several ways:
 //!
-//! - `card`, `line`: the refusals and the decoding that the slow ways share;
+//! - `card`, `sheet`, `line`: the refusals and the decoding that the slow ways share;
 //! - `rewriting`: a recognizer from the definition of rewriting;
 //! - `closure`: the set of derivable items, from the deduction steps (`steps`, `item`);
 //! - `replay`: plans and their pairs, followed on sentential forms;
-//! - `chart`: the five calls made for speed, with a card check and a line splitter of its own.
+//! - `chart`: the six calls made for speed, with a card check and line splitters of its own.
 
 pub mod answers;
 pub mod card;
@@ -15,5 +16,6 @@ pub mod line;
 pub mod random;
 pub mod replay;
 pub mod rewriting;
+pub mod sheet;
 pub mod steps;
 pub mod write;

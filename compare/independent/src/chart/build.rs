@@ -32,30 +32,34 @@ pub const MOST_ITEMS: usize = 65_535;
 
 /// Fills the room, which holds no more than `MOST_ITEMS` records. Most lines are given small
 /// tables, because a large stack frame costs time even if it is hardly used.
-pub fn build(card: &Card, words: &[u8], room: &mut [[u8; 16]]) -> Result<Chart, Full> {
+pub fn build(
+    card: &Card,
+    sets: &ProductionSets,
+    words: &[u8],
+    room: &mut [[u8; 16]],
+) -> Result<Chart, Full> {
     let extent = Extent::of(card, words);
     if extent.groups <= 2048 && extent.tails <= 4096 {
-        build_in::<2048, 4096>(card, words, room, extent)
+        build_in::<2048, 4096>(card, sets, words, room, extent)
     } else {
-        build_in::<{ 16 * STRETCHES }, { 8 * 16 * STRETCHES + 1 }>(card, words, room, extent)
+        build_in::<{ 16 * STRETCHES }, { 8 * 16 * STRETCHES + 1 }>(card, sets, words, room, extent)
     }
 }
 
 #[inline(never)]
 fn build_in<const GROUPS: usize, const TAILS: usize>(
     card: &Card,
+    sets: &ProductionSets,
     words: &[u8],
     room: &mut [[u8; 16]],
     extent: Extent,
 ) -> Result<Chart, Full> {
-    let mut sets = ProductionSets::empty();
-    sets.add_all(card);
     let mut tables = Tables::<GROUPS, TAILS>::new();
     tables.covered_by.fill_first(extent.groups, 0);
     tables.had_by.fill_first(extent.tails, 0);
     let mut builder = Builder {
         productions: card.productions,
-        sets: &sets,
+        sets,
         nonterminals: card.nonterminals,
         words: words.len(),
         groups: extent.groups,

@@ -36,9 +36,9 @@ pub fn spelled(bytes: u64) -> u64 {
     (letters | digits) & !bytes & HIGH
 }
 
-/// The highest bit of each byte that is a space.
-pub fn spaces(bytes: u64) -> u64 {
-    let other = bytes ^ (ONES * 0x20);
+/// The highest bit of each byte that is `wanted`.
+pub fn equal_to(wanted: u8, bytes: u64) -> u64 {
+    let other = bytes ^ (ONES * u64::from(wanted));
     let not_zero = ((other & !HIGH) + !HIGH) | other;
     !not_zero & HIGH
 }

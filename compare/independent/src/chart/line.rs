@@ -1,6 +1,6 @@
 //! The words of a line, sixty-four bytes at a time.
 
-use super::bytes::{HIGH, gathered, spaces, spelled};
+use super::bytes::{HIGH, equal_to, gathered, spelled};
 use super::card::Card;
 
 pub const MOST_WORDS: usize = 24;
@@ -89,7 +89,7 @@ fn inside_words(block: &[u8]) -> Result<u64, u16> {
     for (number, bytes) in eights.iter().enumerate() {
         let bytes = u64::from_le_bytes(*bytes);
         let letters = spelled(bytes);
-        allowed &= letters | spaces(bytes);
+        allowed &= letters | equal_to(b' ', bytes);
         inside |= gathered(letters) << (8 * number);
     }
     if !rest.is_empty() {
@@ -97,7 +97,7 @@ fn inside_words(block: &[u8]) -> Result<u64, u16> {
         padded[..rest.len()].copy_from_slice(rest);
         let bytes = u64::from_le_bytes(padded);
         let letters = spelled(bytes);
-        allowed &= letters | spaces(bytes);
+        allowed &= letters | equal_to(b' ', bytes);
         inside |= gathered(letters) << (8 * eights.len());
     }
     if allowed == HIGH { Ok(inside) } else { Err(22) }

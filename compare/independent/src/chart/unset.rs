@@ -30,4 +30,12 @@ impl<T: Copy, const LENGTH: usize> Unset<T, LENGTH> {
         debug_assert!(at < LENGTH);
         unsafe { self.0.get_unchecked(at).assume_init_read() }
     }
+
+    /// # Safety
+    /// The first `count` places have been set.
+    pub unsafe fn first(&self, count: usize) -> &[T] {
+        let places = &raw const self.0[..count];
+        // SAFETY: `MaybeUninit<T>` has the layout of `T`.
+        unsafe { &*(places as *const [T]) }
+    }
 }
