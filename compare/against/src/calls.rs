@@ -1,6 +1,6 @@
-//! The five calls of whatever is being compared.
+//! The six calls of whatever is being compared.
 
-use independent::answers::{NameAnswer, PairsAnswer, ReadAnswer};
+use independent::answers::{NameAnswer, PairsAnswer, ReadAnswer, SheetAnswer};
 use independent::chart;
 
 /// Answers that are narrower than 64 bits come with the bits left over, which have to be zero.
@@ -17,6 +17,7 @@ pub trait Calls {
         room: &mut [u8],
     ) -> (PairsAnswer, [u16; 2]);
     fn name(&self, card: &[u8], word: usize) -> (NameAnswer, u16);
+    fn sheet(&self, card: &[u8], sheet: &[u8], chart: &mut [u8], output: &mut [u8]) -> SheetAnswer;
 }
 
 /// The library under test.
@@ -52,6 +53,10 @@ impl Calls for Library {
     fn name(&self, card: &[u8], word: usize) -> (NameAnswer, u16) {
         linked::name(card, word)
     }
+
+    fn sheet(&self, card: &[u8], sheet: &[u8], chart: &mut [u8], output: &mut [u8]) -> SheetAnswer {
+        linked::sheet(card, sheet, chart, output)
+    }
 }
 
 /// The independent chart parser.
@@ -86,6 +91,10 @@ impl Calls for ChartParser {
 
     fn name(&self, card: &[u8], word: usize) -> (NameAnswer, u16) {
         (chart::name(card, word), 0)
+    }
+
+    fn sheet(&self, card: &[u8], sheet: &[u8], room: &mut [u8], output: &mut [u8]) -> SheetAnswer {
+        chart::sheet(card, sheet, room, output)
     }
 }
 

@@ -2,6 +2,7 @@
 
 use crate::calls::{BOTH, Calls, ChartParser};
 use crate::damage;
+use crate::disagreement::Disagreement;
 use crate::expected::{Input, Items, Scratch};
 use crate::room::Room;
 use crate::tally::Tally;
@@ -10,38 +11,6 @@ use independent::closure;
 use independent::item::Item;
 use independent::random::Random;
 use independent::rewriting;
-use std::fmt;
-
-/// The bytes that show a disagreement again.
-pub struct Disagreement {
-    pub who: &'static str,
-    pub what: String,
-    pub card: Vec<u8>,
-    pub line: Vec<u8>,
-    pub plan: Vec<u8>,
-    /// Chart, plan and pair room, where lent.
-    pub rooms: [Option<usize>; 3],
-}
-
-impl fmt::Display for Disagreement {
-    fn fmt(&self, f: &mut fmt::Formatter) -> fmt::Result {
-        writeln!(f, "{}: {}", self.who, self.what)?;
-        for (name, bytes) in [
-            ("card", &self.card),
-            ("line", &self.line),
-            ("plan", &self.plan),
-        ] {
-            let hex: Vec<String> = bytes.iter().map(|byte| format!("{byte:02x}")).collect();
-            writeln!(f, "{name} {}", hex.join(""))?;
-        }
-        for (name, length) in ["chart", "plan", "pair"].iter().zip(self.rooms) {
-            if let Some(length) = length {
-                writeln!(f, "{name} room {length}")?;
-            }
-        }
-        Ok(())
-    }
-}
 
 /// How much is done for one input.
 pub struct Effort {
@@ -52,6 +21,9 @@ pub struct Effort {
     pub recognizer_work: usize,
     /// Most items for which the naive closure is made.
     pub closure_items: usize,
+    /// Lengths of chart room for a sheet, and for each of these of output room, beside the ones
+    /// that suffice.
+    pub sheet_rooms: usize,
 }
 
 pub struct Comparison<'a> {
@@ -61,7 +33,7 @@ pub struct Comparison<'a> {
     pub effort: &'a Effort,
 }
 
-type Outcome = Result<(), Box<Disagreement>>;
+pub type Outcome = Result<(), Box<Disagreement>>;
 
 /// Puts a verdict together with the bytes it is about.
 fn blame(
@@ -71,16 +43,7 @@ fn blame(
     rooms: [Option<usize>; 3],
     verdict: verify::Verdict,
 ) -> Outcome {
-    verdict.map_err(|what| {
-        Box::new(Disagreement {
-            who: calls.who(),
-            what,
-            card: input.card_bytes.to_vec(),
-            line: input.line_bytes.to_vec(),
-            plan: plan.to_vec(),
-            rooms,
-        })
-    })
+    verdict.map_err(|what| Disagreement::on_line(calls, input, plan, rooms, what))
 }
 
 impl Comparison<'_> {
@@ -153,7 +116,7 @@ impl Comparison<'_> {
     }
 
     /// The item set against the naive closure, where that is affordable.
-    fn closure(&mut self, input: &Input, items: &Items) -> Outcome {
+    pub fn closure(&mut self, input: &Input, items: &Items) -> Outcome {
         let (Some((card, words)), Some(held)) = (input.accepted(), &items.held) else {
             return Ok(());
         };
@@ -182,7 +145,7 @@ impl Comparison<'_> {
     }
 
     /// Reading or no reading against the definition of rewriting, where that is affordable.
-    fn recognizer(&mut self, input: &Input, items: &Items) -> Outcome {
+    pub fn recognizer(&mut self, input: &Input, items: &Items) -> Outcome {
         let (Some((card, words)), Some(held)) = (input.accepted(), &items.held) else {
             return Ok(());
         };

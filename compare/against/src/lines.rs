@@ -72,7 +72,7 @@ impl Derivation<'_> {
             .iter()
             .filter(|production| production[1] == nonterminal)
             .collect();
-        shuffle(self.random, &mut productions);
+        self.random.shuffle(&mut productions);
         if self.random.once_in(budget) {
             productions.sort_by_key(|production| production[0] != 0);
         }
@@ -104,12 +104,6 @@ impl Derivation<'_> {
         };
         first.extend(second);
         Some(first)
-    }
-}
-
-fn shuffle<T>(random: &mut Random, list: &mut [T]) {
-    for last in (1..list.len()).rev() {
-        list.swap(last, random.below(last + 1));
     }
 }
 

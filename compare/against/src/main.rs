@@ -4,23 +4,35 @@
 //! A disagreement is printed with the bytes that show it, and the exit status is 1.
 
 use against::cards;
-use against::compare::{Comparison, Disagreement, Effort};
+use against::compare::{Comparison, Effort, Outcome};
 use against::damage;
 use against::edges;
 use against::expected::Scratch;
 use against::lines;
+use against::sheet;
 use against::tally::Tally;
 use independent::random::Random;
+use independent::write::CardText;
 use std::process::ExitCode;
 use std::time::Instant;
 
 const DEFAULT_CASES: u64 = 120_000;
+
+/// One case in so many has a sheet as well.
+const CASES_A_SHEET: u64 = 16;
 
 const EFFORT: Effort = Effort {
     other_rooms: 2,
     damaged_plans: 4,
     recognizer_work: 8_000,
     closure_items: 40,
+    sheet_rooms: 2,
+};
+
+/// For the edges of sheets, which are tried with all lengths of room that matter.
+const ALL_SHEET_ROOMS: Effort = Effort {
+    sheet_rooms: usize::MAX,
+    ..EFFORT
 };
 
 fn main() -> ExitCode {
@@ -51,14 +63,14 @@ fn main() -> ExitCode {
     }
     println!("{tally}; {:.1} s", start.elapsed().as_secs_f64());
     let missing = tally.missing();
-    if options.expects_all_refusals() && !missing.is_empty() {
-        println!("refusals that never occurred: {missing:?}");
+    if options.expects_all_refusals() && missing.iter().any(|list| !list.is_empty()) {
+        println!("refusals that never occurred, of calls, sheets and later lines: {missing:?}");
         return ExitCode::FAILURE;
     }
     ExitCode::SUCCESS
 }
 
-fn edge_cases(tally: &mut Tally, scratch: &mut Scratch) -> Result<(), Box<Disagreement>> {
+fn edge_cases(tally: &mut Tally, scratch: &mut Scratch) -> Outcome {
     for (card, line) in edges::greatest_charts() {
         let mut comparison = Comparison {
             random: &mut Random::new(0),
@@ -68,15 +80,19 @@ fn edge_cases(tally: &mut Tally, scratch: &mut Scratch) -> Result<(), Box<Disagr
         };
         comparison.run(&card, &line)?;
     }
+    let mut comparison = Comparison {
+        random: &mut Random::new(0),
+        scratch,
+        tally,
+        effort: &ALL_SHEET_ROOMS,
+    };
+    for (card, sheet) in sheet::edges::all() {
+        comparison.sheet(&card, &sheet)?;
+    }
     Ok(())
 }
 
-fn run(
-    seed: u64,
-    case: u64,
-    tally: &mut Tally,
-    scratch: &mut Scratch,
-) -> Result<(), Box<Disagreement>> {
+fn run(seed: u64, case: u64, tally: &mut Tally, scratch: &mut Scratch) -> Outcome {
     let mut random = Random::for_case(seed, case);
     let drawn = cards::draw(&mut random);
     let most_words = match (drawn.dense, random.below(30)) {
@@ -103,7 +119,27 @@ fn run(
         tally,
         effort: &EFFORT,
     };
-    comparison.run(&card[shift..], &line[shift..])
+    comparison.run(&card[shift..], &line[shift..])?;
+    if case.is_multiple_of(CASES_A_SHEET) {
+        run_sheet(&mut comparison, &drawn.text, &card[shift..], most_words)?;
+    }
+    Ok(())
+}
+
+/// A sheet under the case's card, which may have been damaged. The bytes around it would make a
+/// line more, or its last line longer.
+fn run_sheet(
+    comparison: &mut Comparison,
+    text: &CardText,
+    card: &[u8],
+    most_words: usize,
+) -> Outcome {
+    let sheet = sheet::draw::draw(text, comparison.random, most_words);
+    let around = [text.words[0].as_bytes(), b"\n"].concat();
+    let start = around.len();
+    let end = start + sheet.len();
+    let bytes = [around.clone(), sheet, around].concat();
+    comparison.sheet(card, &bytes[start..end])
 }
 
 struct Options {

@@ -4,6 +4,7 @@ use independent::random::Random;
 
 const FENCE: usize = 24;
 
+#[derive(Clone)]
 pub struct Room {
     /// Fence, room, fence.
     bytes: Vec<u8>,
@@ -50,6 +51,11 @@ impl Room {
     /// Whether the room is zero and the fences stand.
     pub fn zeroed(&self) -> bool {
         self.now().iter().all(|&byte| byte == 0) && self.untouched_after(self.length)
+    }
+
+    /// What is in the room now counts as lent with the next call.
+    pub fn keep(&mut self) {
+        self.before.copy_from_slice(&self.bytes);
     }
 
     /// The room as it was lent.

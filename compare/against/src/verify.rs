@@ -12,7 +12,7 @@ use independent::steps;
 
 pub type Verdict = Result<(), String>;
 
-fn expect<T: PartialEq + std::fmt::Debug>(what: &str, found: T, expected: T) -> Verdict {
+pub fn expect<T: PartialEq + std::fmt::Debug>(what: &str, found: T, expected: T) -> Verdict {
     if found == expected {
         Ok(())
     } else {
@@ -20,7 +20,7 @@ fn expect<T: PartialEq + std::fmt::Debug>(what: &str, found: T, expected: T) -> 
     }
 }
 
-fn demand(what: &str, holds: bool) -> Verdict {
+pub fn demand(what: &str, holds: bool) -> Verdict {
     if holds { Ok(()) } else { Err(what.to_string()) }
 }
 

@@ -1,6 +1,6 @@
 //! The library under test, called as a C program calls it.
 
-use independent::answers::{NameAnswer, PairsAnswer, ReadAnswer};
+use independent::answers::{NameAnswer, PairsAnswer, ReadAnswer, SheetAnswer};
 
 unsafe extern "C" {
     fn lig_card_check(card: *const u8, card_length: usize) -> u64;
@@ -33,6 +33,16 @@ unsafe extern "C" {
         pairs_length: usize,
     ) -> u64;
     fn lig_name(card: *const u8, card_length: usize, word: usize) -> u64;
+    fn lig_sheet(
+        card: *const u8,
+        card_length: usize,
+        sheet: *const u8,
+        sheet_length: usize,
+        chart: *mut u8,
+        chart_length: usize,
+        output: *mut u8,
+        output_length: usize,
+    ) -> u64;
 }
 
 pub fn card_check(card: &[u8]) -> u64 {
@@ -107,6 +117,29 @@ pub fn name(card: &[u8], word: usize) -> (NameAnswer, u16) {
         length,
     };
     (answer, upper)
+}
+
+/// From the low end 16, 8, 20 and 20 bits: no bit is left over.
+pub fn sheet(card: &[u8], sheet: &[u8], chart: &mut [u8], output: &mut [u8]) -> SheetAnswer {
+    // SAFETY: each pointer and length are of one slice, and rooms do not overlap.
+    let packed = unsafe {
+        lig_sheet(
+            card.as_ptr(),
+            card.len(),
+            sheet.as_ptr(),
+            sheet.len(),
+            chart.as_mut_ptr(),
+            chart.len(),
+            output.as_mut_ptr(),
+            output.len(),
+        )
+    };
+    SheetAnswer {
+        number: packed as u16,
+        line: (packed >> 16) as u8,
+        records: (packed >> 24) as u32 & 0xF_FFFF,
+        dropped: (packed >> 44) as u32,
+    }
 }
 
 /// Sixteen bits each, from the low end.

@@ -1,11 +1,12 @@
 //! Small worlds gone through whole: all lines of up to six words under some hundred small cards,
-//! and all plans with small numbers for lines of up to two words.
+//! all plans with small numbers for lines of up to two words, and all sheets of up to seven bytes.
 
 mod enumerate;
 mod plans;
+mod sheets;
 mod worlds;
 
-use against::compare::{Comparison, Disagreement, Effort};
+use against::compare::{Comparison, Effort, Outcome};
 use against::expected::Scratch;
 use against::tally::Tally;
 use enumerate::lists;
@@ -23,11 +24,15 @@ const EFFORT: Effort = Effort {
     damaged_plans: 1,
     recognizer_work: 100_000,
     closure_items: 60,
+    sheet_rooms: 3,
 };
 
 fn main() -> ExitCode {
     let start = Instant::now();
-    match all_lines().and_then(|()| all_plans()) {
+    match all_lines()
+        .and_then(|()| all_plans())
+        .and_then(|()| all_sheets())
+    {
         Ok(()) => {
             println!("{:.1} s", start.elapsed().as_secs_f64());
             ExitCode::SUCCESS
@@ -39,7 +44,7 @@ fn main() -> ExitCode {
     }
 }
 
-fn all_lines() -> Result<(), Box<Disagreement>> {
+fn all_lines() -> Outcome {
     let mut tally = Tally::default();
     let mut scratch = Scratch::default();
     let mut random = Random::new(0);
@@ -71,7 +76,7 @@ fn line(text: &CardText, numbers: &[usize]) -> Vec<u8> {
     text.line(&numbers)
 }
 
-fn all_plans() -> Result<(), Box<Disagreement>> {
+fn all_plans() -> Outcome {
     let mut tried = Tried::default();
     for (number, text) in worlds::cards_for_plans().iter().enumerate() {
         let card = text.bytes();
@@ -90,6 +95,26 @@ fn all_plans() -> Result<(), Box<Disagreement>> {
     println!(
         "{} plans checked against the literal replayer, {} of them pass",
         tried.all, tried.passing
+    );
+    Ok(())
+}
+
+fn all_sheets() -> Outcome {
+    let mut tally = Tally::default();
+    let cards = worlds::cards_for_sheets();
+    for text in &cards {
+        let mut comparison = Comparison {
+            random: &mut Random::new(0),
+            scratch: &mut Scratch::default(),
+            tally: &mut tally,
+            effort: &EFFORT,
+        };
+        sheets::try_all(&text.bytes(), &mut comparison)?;
+    }
+    println!(
+        "{} cards, all sheets of up to {} bytes: {tally}",
+        cards.len(),
+        sheets::MOST_BYTES
     );
     Ok(())
 }

@@ -2,7 +2,7 @@
 
 use crate::enumerate::lists;
 use against::calls::BOTH;
-use against::compare::Disagreement;
+use against::disagreement::Disagreement;
 use against::expected::Input;
 use against::verify;
 
@@ -46,14 +46,8 @@ fn every_step(productions: usize, most_place: usize) -> Vec<[u8; 4]> {
 fn passes(input: &Input, plan: &[u8]) -> Result<bool, Box<Disagreement>> {
     let expected = input.replayed(plan).err().unwrap_or(0);
     for calls in BOTH {
-        verify::check(calls, input, plan, expected).map_err(|what| Disagreement {
-            who: calls.who(),
-            what,
-            card: input.card_bytes.to_vec(),
-            line: input.line_bytes.to_vec(),
-            plan: plan.to_vec(),
-            rooms: [None; 3],
-        })?;
+        verify::check(calls, input, plan, expected)
+            .map_err(|what| Disagreement::on_line(calls, input, plan, [None; 3], what))?;
     }
     Ok(expected == 0)
 }

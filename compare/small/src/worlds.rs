@@ -86,3 +86,22 @@ pub fn cards_for_plans() -> Vec<CardText> {
         card(1, &[[0, 0, 1, 0, 0, 0], b_word, [4, 0, 0, 1, 0, 0]]),
     ]
 }
+
+/// Cards whose short sheets are all tried. The first one reads a b b with a pair; the second, on
+/// which b is no word, reads a a a with one.
+pub fn cards_for_sheets() -> [CardText; 2] {
+    let card = |nonterminals, words: &[&str], productions: &[[u8; 6]]| CardText {
+        nonterminals,
+        indices: 1,
+        words: words.iter().map(|word| word.to_string()).collect(),
+        productions: productions.to_vec(),
+    };
+    let a_word = [0, 0, 0, 0, 0, 0];
+    let b_word = [0, 1, 1, 0, 0, 0];
+    let [give, take] = [[5, 0, 0, 1, 1, 0], [2, 1, 1, 1, 1, 0]];
+    let [give_alone, take_alone] = [[5, 0, 0, 0, 1, 0], [2, 0, 0, 0, 1, 0]];
+    [
+        card(2, &["a", "b"], &[a_word, b_word, give, take]),
+        card(1, &["a"], &[a_word, give_alone, take_alone]),
+    ]
+}

@@ -1,0 +1,75 @@
+//! A sheet as it has to be read, from the slow implementations.
+
+use crate::expected::{Input, Items, Scratch};
+use independent::card::Card;
+use independent::sheet;
+
+/// Enough for the plan of any line, so that 32 does not occur.
+pub const PLAN_ROOM: usize = 188;
+
+pub struct Sheet<'a> {
+    pub card_bytes: &'a [u8],
+    pub bytes: &'a [u8],
+    /// The lines without those that another one equals.
+    pub different: Vec<Line<'a>>,
+    /// For each line its place in that list, or why no line is read.
+    order: Result<Vec<usize>, u16>,
+}
+
+pub struct Line<'a> {
+    pub input: Input<'a>,
+    /// None if the line is refused before its items matter.
+    pub items: Option<Items>,
+}
+
+impl<'a> Sheet<'a> {
+    pub fn new(card_bytes: &'a [u8], bytes: &'a [u8], scratch: &mut Scratch) -> Self {
+        let mut different: Vec<Line> = Vec::new();
+        let mut place = |line: &'a [u8]| {
+            let equal = |other: &Line| other.input.line_bytes == line;
+            different.iter().position(equal).unwrap_or_else(|| {
+                different.push(Line::new(card_bytes, line, scratch));
+                different.len() - 1
+            })
+        };
+        let lines = Card::accept(card_bytes).and_then(|_| sheet::lines(bytes));
+        let order = lines.map(|lines| lines.into_iter().map(&mut place).collect());
+        Sheet {
+            card_bytes,
+            bytes,
+            different,
+            order,
+        }
+    }
+
+    /// The lines in order, or the refusal of card or sheet.
+    pub fn lines(&self) -> Result<Vec<&Line<'a>>, u16> {
+        let order = self.order.as_ref().map_err(|number| *number)?;
+        Ok(order.iter().map(|&place| &self.different[place]).collect())
+    }
+
+    /// How many items the lines have, each number once, the least first.
+    pub fn item_counts(&self) -> Vec<usize> {
+        let items = self.different.iter().filter_map(|line| line.items.as_ref());
+        let mut counts: Vec<usize> = items.map(Items::count).collect();
+        counts.sort_unstable();
+        counts.dedup();
+        counts
+    }
+}
+
+impl<'a> Line<'a> {
+    fn new(card_bytes: &'a [u8], line_bytes: &'a [u8], scratch: &mut Scratch) -> Self {
+        let input = Input::new(card_bytes, line_bytes);
+        let items = input.accepted().map(|_| Items::of(&input, scratch));
+        Line { input, items }
+    }
+
+    /// Read's number for the line, with chart room of this length.
+    pub fn number(&self, chart_room: usize) -> u16 {
+        match (&self.input.words, &self.items) {
+            (Ok(words), Some(items)) => items.read_number(words.len(), chart_room, PLAN_ROOM),
+            (words, _) => words.as_ref().err().copied().unwrap_or(0),
+        }
+    }
+}
