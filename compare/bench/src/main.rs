@@ -1,4 +1,4 @@
-//! Times of the five calls, of the library and of a rival made for speed.
+//! Times of the six calls, of the library and of a rival made for speed.
 //! Nothing is asserted about times; that both answer alike is.
 //!
 //! `bench [--csv FILE] [--plot FILE]`
@@ -6,12 +6,14 @@
 mod calls;
 mod plot;
 mod report;
+mod sheet;
 mod timing;
 mod workload;
 
 use calls::{Measured, MeasuredCard, measure_all, measure_card, measure_read};
 use plot::{Panel, curves};
 use report::Row;
+use sheet::{MeasuredSheet, measure_sheet};
 use std::error::Error;
 use std::fs;
 use workload::{Workload, ambiguous_of, dense, tomato_of};
@@ -25,12 +27,16 @@ fn main() -> Result<(), Box<dyn Error>> {
     println!("{}", report::markdown(&table));
     let cards = workload::cards().map(measure_card);
     println!("{}", report::cards_markdown(&cards));
+    let sheets = workload::sheets().each_ref().map(measure_sheet);
+    println!("{}", report::sheets_markdown(&sheets));
+    println!("{}", report::sheet_figure(&sheets[0]));
     let ambiguous = growth((1..=24).map(ambiguous_of));
     let tomato = growth((0..=11).map(tomato_of));
     let items = growth(ITEM_STEPS.map(dense).into_iter());
     let measured = table.iter().chain(&ambiguous).chain(&tomato).chain(&items);
     let mut rows: Vec<Row> = measured.flat_map(Measured::rows).collect();
     rows.extend(cards.iter().flat_map(MeasuredCard::rows));
+    rows.extend(sheets.iter().map(MeasuredSheet::row));
     println!("{}", report::longest_markdown(&rows));
     if let Some(file) = &options.csv {
         fs::write(file, report::csv(&rows))?;

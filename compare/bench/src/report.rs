@@ -1,6 +1,7 @@
 //! The measurements as tables.
 
 use crate::calls::{Measured, MeasuredCard};
+use crate::sheet::MeasuredSheet;
 use crate::timing::Times;
 
 /// The main table, in Markdown: nanoseconds of the library, of the rival, and their ratio.
@@ -48,6 +49,39 @@ pub fn cards_markdown(list: &[MeasuredCard]) -> String {
     text
 }
 
+/// Sheets, in Markdown: beside the rival, and beside the library's own calls on the lines.
+pub fn sheets_markdown(list: &[MeasuredSheet]) -> String {
+    let mut text = String::from(
+        "| sheet | words | items | Sheet: library | rival | ratio \
+         | library, Read and Pairs for each line | ratio |\n\
+         |---|---|---|---|---|---|---|---|\n",
+    );
+    for measured in list {
+        text += &format!(
+            "| {} | {} | {} | {} | {:.0} | {:.2} |\n",
+            measured.name,
+            measured.words,
+            measured.items,
+            cells(&measured.sheet),
+            measured.by_line.lines,
+            measured.by_line.ratio(),
+        );
+    }
+    text
+}
+
+/// The figure that a sheet is for.
+pub fn sheet_figure(measured: &MeasuredSheet) -> String {
+    format!(
+        "The library's {} takes {:.2} times as long as Read and Pairs for each line: \
+         {:.0} and {:.0}.\n",
+        measured.name,
+        measured.by_line.ratio(),
+        measured.by_line.sheet,
+        measured.by_line.lines,
+    )
+}
+
 /// How Read grows, in Markdown.
 pub fn growth_markdown(list: &[Measured]) -> String {
     let mut text = String::from(
@@ -81,7 +115,7 @@ pub struct Row<'a> {
     workload: &'a str,
     call: &'static str,
     number: u16,
-    /// Words of the line and derivable items, where the call takes a line.
+    /// Words and derivable items, where the call takes a line or a sheet.
     counts: Option<(usize, usize)>,
     times: &'a Times,
 }
@@ -119,10 +153,22 @@ impl MeasuredCard {
     }
 }
 
+impl MeasuredSheet {
+    pub fn row(&self) -> Row<'_> {
+        Row {
+            workload: &self.name,
+            call: "Sheet",
+            number: 0,
+            counts: Some((self.words, self.items)),
+            times: &self.sheet,
+        }
+    }
+}
+
 /// For each call, the row where the library takes longest, in Markdown.
 pub fn longest_markdown(rows: &[Row]) -> String {
     let mut text = String::from("| longest of each call | library | workload |\n|---|---|---|\n");
-    for call in ["Card check", "Read", "Check", "Pairs", "Name"] {
+    for call in ["Card check", "Read", "Check", "Pairs", "Name", "Sheet"] {
         let of_call = rows.iter().filter(|row| row.call == call);
         let longest = of_call.max_by(|a, b| a.times.library.total_cmp(&b.times.library));
         let Row {

@@ -20,19 +20,22 @@ impl Times {
     }
 }
 
-pub fn measure(mut library: impl FnMut(), mut rival: impl FnMut()) -> Times {
-    let library_calls = calls_a_round(&mut library);
-    let rival_calls = calls_a_round(&mut rival);
-    let mut library_rounds = Vec::new();
-    let mut rival_rounds = Vec::new();
+pub fn measure(library: impl FnMut(), rival: impl FnMut()) -> Times {
+    let [library, rival] = in_turn(library, rival);
+    Times { library, rival }
+}
+
+/// Nanoseconds a call, of both.
+pub fn in_turn(mut one: impl FnMut(), mut other: impl FnMut()) -> [f64; 2] {
+    let one_calls = calls_a_round(&mut one);
+    let other_calls = calls_a_round(&mut other);
+    let mut one_rounds = Vec::new();
+    let mut other_rounds = Vec::new();
     for _ in 0..ROUNDS {
-        library_rounds.push(round(&mut library, library_calls));
-        rival_rounds.push(round(&mut rival, rival_calls));
+        one_rounds.push(round(&mut one, one_calls));
+        other_rounds.push(round(&mut other, other_calls));
     }
-    Times {
-        library: median(library_rounds),
-        rival: median(rival_rounds),
-    }
+    [one_rounds, other_rounds].map(median)
 }
 
 fn calls_a_round(call: &mut impl FnMut()) -> u32 {

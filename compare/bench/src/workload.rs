@@ -1,5 +1,6 @@
 //! Cards and lines to measure with.
 
+use crate::sheet::SheetWorkload;
 use independent::chart;
 use independent::random::Random;
 use independent::write::{CardText, tomato, tomato_line};
@@ -46,6 +47,17 @@ pub fn all() -> Vec<Workload> {
         limits(),
         worst_found(),
     ]
+}
+
+/// The first of them is the one whose time line by line is reported by itself.
+pub fn sheets() -> [SheetWorkload; 4] {
+    [
+        (tomato_of(4), 64),
+        (tomato_of(4), 1),
+        (tomato_of(11), 64),
+        (ambiguous_of(24), 64),
+    ]
+    .map(|(line, lines)| SheetWorkload { line, lines })
 }
 
 /// The cards that the calls on a card alone are measured with.
