@@ -1,18 +1,19 @@
 /*
- * lig.h: the five calls of Figalonga, the order reader, for C99 and C++ on x86-64 with the System V
+ * lig.h: the six calls of Figalonga, the order reader, for C99 and C++ on x86-64 with the System V
  * calling convention.
  *
  * A card holds a nursery's words and the rules by which they make orders. A line is what a shift
  * leader types. A plan is a derivation of the line, step by step. Its pairs are the places in the
- * line that belong together: from them a controller sets its registers.
+ * line that belong together: from them a controller sets its registers. A sheet is many lines.
  *
  *     lig_card_check   Is this a card?
  *     lig_read         Is this line an order under the card? Writes its chart and its plan.
  *     lig_check        Is this plan a derivation of this line?
  *     lig_pairs        Which places does this plan pair? Writes them.
  *     lig_name         Where does the card spell this word?
+ *     lig_sheet        Is every line of this sheet an order? Writes the pairs of all of them.
  *
- * Link with liblig.a. Of the C library it wants memset, and nothing else.
+ * Link with liblig.a. Of the C library it wants memcpy and memset, and nothing else.
  *
  * What the calls ask of you; nothing on their side can see to it:
  *
@@ -25,8 +26,8 @@
  *     interrupt, no device.
  *   - The stack has the bytes that "Stack and time", at the end, speaks of.
  *
- * Nothing more is asked. A card, a line and a plan may hold any bytes and have any length, and a
- * room may be too short or empty: each call then says so by a number.
+ * Nothing more is asked. A card, a line, a plan and a sheet may hold any bytes and have any length,
+ * and a room may be too short or empty: each call then says so by a number.
  *
  * What each call keeps to: it uses no heap and no lock, has no state, does no input or output, and
  * keeps no pointer after it has returned. So calls may run at the same time, each with rooms of its
@@ -53,15 +54,15 @@ extern "C" {
  * layout raises the major number, and one that only adds a call the minor one.
  */
 #define LIG_VERSION_MAJOR 1
-#define LIG_VERSION_MINOR 0
+#define LIG_VERSION_MINOR 1
 #define LIG_VERSION_PATCH 0
-#define LIG_VERSION "1.0.0"
+#define LIG_VERSION "1.1.0"
 
 /*
  * Refusals
  *
- * The number 0 says that the call did what it is for. Any other number is a refusal, and its tens
- * say who can mend the matter. Where several conditions hold at once, the first one in the order
+ * The number 0 says that the call did what it is for. Any other number is a refusal, and lig_mender
+ * says who can mend the matter. Where several conditions hold at once, the first one in the order
  * given at each call is answered.
  */
 #define LIG_OK 0
@@ -80,18 +81,24 @@ extern "C" {
 #define LIG_LINE_LONG 23       /* more than LIG_MOST_WORDS words */
 #define LIG_LINE_WORD 24       /* a word that is not on the card */
 #define LIG_LINE_NO_READING 25 /* the words are known, and no derivation comes to them */
+#define LIG_SHEET_LONG 41      /* a sheet of more than LIG_MOST_LINES lines; before its lines */
 
 /* The programmer of the controller. */
 #define LIG_CHART_ROOM 31  /* more items than the chart room holds */
 #define LIG_PLAN_ROOM 32   /* the plan room is under LIG_PLAN_BYTES(words) bytes */
-#define LIG_PAIR_ROOM 33   /* the pair room is under LIG_PAIR_BYTES bytes for each pair */
+#define LIG_PAIR_ROOM 33   /* pair room under LIG_PAIR_BYTES a pair, output room under 3 a record */
 #define LIG_WRONG_PLAN 34  /* the plan is no leftmost derivation of the line */
 #define LIG_WORD_NUMBER 35 /* the card has no word of that number */
 
-/* Who can mend a refusal: its number / 10. */
+/* Who can mend a refusal: the tens of its number, but for 41. */
 #define LIG_BY_NURSERY 1
 #define LIG_BY_SHIFT_LEADER 2
 #define LIG_BY_PROGRAMMER 3
+
+static inline unsigned lig_mender(unsigned number)
+{
+    return number == LIG_SHEET_LONG ? LIG_BY_SHIFT_LEADER : number / 10;
+}
 
 /*
  * Sizes
@@ -112,13 +119,19 @@ extern "C" {
 #define LIG_MOST_PAIRS 11
 #define LIG_MOST_PAIR_BYTES 22 /* enough for any plan */
 
+#define LIG_MOST_LINES 64          /* in a sheet */
+#define LIG_SHEET_RECORD_BYTES 3   /* a line's place, and a pair */
+#define LIG_MOST_SHEET_RECORDS 704 /* 11 pairs a line */
+#define LIG_MOST_SHEET_OUTPUT 2112 /* room for all of them: enough for any sheet */
+
 #define LIG_RECORD_BYTES 16
 #define LIG_MOST_ITEMS 65535         /* in a chart, however long its room is */
 #define LIG_MOST_CHART_BYTES 1048560 /* room for all of them; a longer room serves no better */
 
 /*
- * The parts of an answer, 16 bits each from the low end: the number first, for every call, and then
- * what belongs to the one call that is named. Bits that no part uses are 0.
+ * The parts of an answer, from the low end: the number in the lowest 16 bits, for every call, and
+ * then what belongs to the one call that is named, 16 bits each, with lig_sheet 8 bits and 20. Bits
+ * that no part uses are 0.
  */
 static inline unsigned lig_number(uint64_t answer)
 {
@@ -158,11 +171,22 @@ static inline size_t lig_length(uint64_t answer)
     return answer >> 32 & 0xFFFFu;
 }
 
+/* Of lig_sheet: the place of the line that failed, counted from 0, and how many records. */
+static inline size_t lig_line(uint64_t answer)
+{
+    return answer >> 16 & 0xFFu;
+}
+
+static inline size_t lig_records(uint64_t answer)
+{
+    return answer >> 24 & 0xFFFFFu;
+}
+
 /*
  * lig_card_check: is this a card?
  *
  * Answers LIG_OK, or the first of 11, 12, 13, 14, 15, 16 whose condition holds. No part beside the
- * number. The other four calls make this check themselves, before anything else.
+ * number. The other calls make this check themselves, before anything else.
  */
 uint64_t lig_card_check(const uint8_t *card, size_t card_length);
 
@@ -257,6 +281,41 @@ uint64_t lig_pairs(const uint8_t *card, size_t card_length,
 uint64_t lig_name(const uint8_t *card, size_t card_length, size_t word);
 
 /*
+ * lig_sheet: is every line of this sheet an order under the card?
+ *
+ * The lines are ended by hex 0A, the last one with or without it, so "a" and "a\n" have one line,
+ * "a\n\n" has two, the second empty, and a sheet of no bytes has none. Each line is read as
+ * lig_read reads it, in order, with the chart room lent here and with plan room of the call's own:
+ * 32 does not occur. The first line that is not read ends it, and an empty one is not. Only where
+ * all are read are records written.
+ *
+ * Refusals, in this order: the card's 11 to 16; 41; the number that lig_read has for the first line
+ * that is not read, one of 22, 21, 23, 24, 31, 25; then 33, where the output room is under
+ * LIG_SHEET_RECORD_BYTES bytes for each record.
+ *
+ *     number          line        records   chart room              output room
+ *     LIG_OK          0           all       as the reads left it    the records
+ *     33              0           0         as the reads left it    untouched
+ *     21 to 25, 31    its place   0         as the reads left it    untouched
+ *     11 to 16, 41    0           0         untouched               untouched
+ *
+ * "As the reads left it": each read does with the chart room what lig_read says, from where the
+ * read before left it, the one that fails included; no line after that one is read. So with 31 the
+ * chart room is zero in every byte.
+ *
+ * There is a record for each pair of each line, in the order of the lines and then of the pairs:
+ * the line's place, counted from 0, and the two bytes of the pair. The bytes past the records are
+ * untouched. A sheet of no lines is accepted, with no records.
+ *
+ * Free: what is free with lig_read, for each line. So which pairs a line has is free where it has
+ * several derivations; they are those of one plan of it, which lig_check passes.
+ */
+uint64_t lig_sheet(const uint8_t *card, size_t card_length,
+                   const uint8_t *sheet, size_t sheet_length,
+                   uint8_t *chart, size_t chart_length,
+                   uint8_t *output, size_t output_length);
+
+/*
  * Stack and time
  *
  * Bytes of stack that each call wants, measured and not proved. tools/stack-use runs the calls on a
@@ -265,16 +324,20 @@ uint64_t lig_name(const uint8_t *card, size_t card_length, size_t word);
  *
  *     line of        1 to 6 words   7 to 12 words   13 to 24 words
  *     lig_card_check      88              88              88
- *     lig_read        14,728          15,856          63,208
- *     lig_read/few    14,728          15,856          36,216
+ *     lig_read        14,792          15,936          63,272
+ *     lig_read/few    14,792          15,936          36,280
  *     lig_check        1,176           1,176           1,176
  *     lig_pairs        1,256           1,256           1,256
  *     lig_name           104             104             104
+ *     lig_sheet       17,256          18,400          65,736
+ *     lig_sheet/few   17,256          18,400          38,744
  *
- * lig_read/few is lig_read with a card of at most 6 nonterminals. lig_read takes 13,056 of them at
- * once, for every line, also for one that it refuses. The figures below have at least 128 bytes to
- * spare, as much as a function may use below the stack pointer. Interrupts that run on the same
- * stack come on top.
+ * lig_read/few and lig_sheet/few are these calls with a card of at most 6 nonterminals. Of a sheet
+ * the longest line counts, and not how many lines there are. Under a card that is accepted lig_read
+ * takes at least 13,504 of them, also for a line that it refuses. lig_sheet takes 2,464 more than
+ * lig_read, in every column: it keeps the records of all lines until the last line is read. The
+ * figures below have at least 128 bytes to spare, as much as a function may use below the stack
+ * pointer. Interrupts that run on the same stack come on top.
  *
  * Nanoseconds that each call took, measured and not promised. make bench runs the calls on many
  * cards and lines. The longest median that one run saw, on two cores of a virtual machine (AMD
@@ -287,9 +350,9 @@ uint64_t lig_name(const uint8_t *card, size_t card_length, size_t word);
  *     lig_name                829   limits, 780 bytes
  *
  * "limits" is a card at its limits; "worst found" is the card and line, of 62,469 items, on which a
- * search found lig_read slowest. Another machine, card or line may take longer. With a shorter chart
- * room lig_read ends sooner where there are more items than it holds. docs/PERFORMANCE.md has the
- * times of all workloads.
+ * search found lig_read slowest. Another machine, card or line may take longer. With a shorter
+ * chart room lig_read ends sooner where there are more items than it holds. docs/PERFORMANCE.md has
+ * the times of all workloads.
  */
 #define LIG_STACK_CARD_CHECK 256
 #define LIG_STACK_READ 63872
@@ -297,6 +360,8 @@ uint64_t lig_name(const uint8_t *card, size_t card_length, size_t word);
 #define LIG_STACK_CHECK 1408
 #define LIG_STACK_PAIRS 1408
 #define LIG_STACK_NAME 512
+#define LIG_STACK_SHEET 66432
+#define LIG_STACK_SHEET_FEW 39424 /* with a card of at most 6 nonterminals */
 
 #ifdef __cplusplus
 }
