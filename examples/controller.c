@@ -1,78 +1,39 @@
 /*
- * A small valve controller: reads a card, then lines, and prints the registers that each line sets.
+ * A small valve controller: reads a card and a sheet, and prints the registers that the sheet sets.
  *
- *     controller CARD < LINES
+ *     controller CARD < SHEET
  *
- * All rooms are static. No register is set before every call on a line has passed, so that a line
- * that is refused changes nothing. Exit status: 0 where every line was dealt with, read or refused;
- * 1 where the card is refused; 2 where a file cannot be read or written.
+ * All rooms are static. A sheet is obeyed as a whole or not at all: where any line of it is refused
+ * no register is set, not even from the lines before that one. Exit status: 0 where the sheet is
+ * obeyed; 1 where the card or the sheet is refused; 2 where a file cannot be read or written.
+ *
+ * People count lines and words from 1, and so does what is printed; lig.h counts from 0.
  */
 #include <stdio.h>
 
 #include "lig.h"
+#include "refusals.h"
 
 enum {
-    LINE_ROOM = 512,     /* 24 words of 11 letters with a space between them take 287 bytes */
-    CHART_ITEMS = 4000,  /* chosen for the nursery's cards; a line that wants more is refused, 31 */
-    WORD_COUNT_AT = 5,   /* in a card: the byte that counts its words */
-    WORDS_AT = 12,       /* in a card: the first word's entry */
-    WORD_BYTES = 12,     /* of an entry */
-    PRODUCTION_BYTES = 6 /* kind, nonterminal, word, .. where the kind is 0 */
+    CHART_ITEMS = 4000, /* chosen for the nursery's cards; a line that wants more is refused, 31 */
+    LINE_ROOM = 512,    /* 24 words of 11 letters with a space between them take 287 bytes */
+    SHEET_ROOM = LIG_MOST_LINES * LINE_ROOM
 };
 
-enum input { INPUT_LINE, INPUT_TOO_LONG, INPUT_END, INPUT_FAILED };
+/* Bytes of the sheet: some lines, one line or one word. There is no zero at its end. */
+struct text {
+    const uint8_t *start;
+    size_t length;
+};
 
-/* One byte more than a card can have, so that a longer file is refused and not cut. */
+/* One byte more than is taken, so that a longer file is refused and not cut. */
 static uint8_t card[LIG_MOST_CARD_BYTES + 1];
 static size_t card_length;
-static uint8_t line[LINE_ROOM];
-static size_t line_length;
+static uint8_t sheet[SHEET_ROOM + 1];
+static size_t sheet_length;
 
-static uint64_t reading; /* lig_read's answer for the line */
 static uint8_t chart[CHART_ITEMS * LIG_RECORD_BYTES];
-static uint8_t plan[LIG_MOST_PLAN_BYTES];
-static size_t plan_length;
-static uint8_t pairs[LIG_MOST_PAIR_BYTES];
-static size_t pairs_length;
-static uint64_t names[LIG_MOST_PAIR_BYTES]; /* lig_name's answer for each place in pairs */
-
-static const char *who(unsigned number)
-{
-    switch (number / 10) {
-    case LIG_BY_NURSERY: return "nursery";
-    case LIG_BY_SHIFT_LEADER: return "shift leader";
-    case LIG_BY_PROGRAMMER: return "programmer";
-    default: return "nobody";
-    }
-}
-
-static const char *reason(unsigned number)
-{
-    switch (number) {
-    case LIG_CARD_MARK: return "this is no card";
-    case LIG_CARD_COUNTS: return "a count of the card is outside its limits";
-    case LIG_CARD_LENGTHS: return "the card's length does not fit its counts";
-    case LIG_CARD_ENTRY: return "a word of the card is badly written";
-    case LIG_CARD_SAME_WORD: return "the card has a word twice";
-    case LIG_CARD_PRODUCTION: return "a production of the card is badly written";
-    case LIG_LINE_BYTE: return "only a to z, 0 to 9 and spaces are allowed";
-    case LIG_LINE_EMPTY: return "there is no word";
-    case LIG_LINE_LONG: return "there are more than 24 words";
-    case LIG_LINE_WORD: return "a word is not on the card";
-    case LIG_LINE_NO_READING: return "this is not an order";
-    case LIG_CHART_ROOM: return "the chart room is too short";
-    case LIG_PLAN_ROOM: return "the plan room is too short";
-    case LIG_PAIR_ROOM: return "the pair room is too short";
-    case LIG_WRONG_PLAN: return "the plan is not one of this line";
-    case LIG_WORD_NUMBER: return "the card has no word of this number";
-    default: return "unknown number";
-    }
-}
-
-static void print_refusal(unsigned number)
-{
-    printf("  refused %u (%s): %s\n", number, who(number), reason(number));
-}
+static uint8_t records[LIG_MOST_SHEET_OUTPUT];
 
 /* 0 where the file, or as much of it as there is room for, is in card. */
 static int load_card(const char *name)
@@ -87,134 +48,106 @@ static int load_card(const char *name)
     return 0;
 }
 
-/*
- * The next line of standard input, without its end. A line that outgrows its room is passed over
- * as a whole, since its beginning may be an order that nobody gave.
- */
-static enum input next_line(void)
+/* 0 where standard input, or as much of it as there is room for, is in sheet. */
+static int load_sheet(void)
 {
-    int byte = getchar();
-    int fits = 1;
-    if (byte == EOF)
-        return ferror(stdin) ? INPUT_FAILED : INPUT_END;
-    line_length = 0;
-    while (byte != '\n' && byte != EOF) {
-        fits = line_length < sizeof line;
-        if (fits)
-            line[line_length++] = (uint8_t)byte;
-        byte = getchar();
-    }
-    if (ferror(stdin))
-        return INPUT_FAILED;
-    return fits ? INPUT_LINE : INPUT_TOO_LONG;
+    sheet_length = fread(sheet, 1, sizeof sheet, stdin);
+    return ferror(stdin) ? -1 : 0;
 }
 
-static void print_line(void)
+/* Takes off the text before the next byte of this value, with that byte, or all where none is. */
+static struct text cut(struct text *rest, uint8_t value)
 {
-    putchar('"');
-    for (size_t k = 0; k < line_length; k++)
-        putchar(line[k] >= 0x20 && line[k] < 0x7F ? line[k] : '?');
+    struct text part = { rest->start, 0 };
+    while (part.length < rest->length && part.start[part.length] != value)
+        part.length++;
+    size_t taken = part.length < rest->length ? part.length + 1 : part.length;
+    rest->start += taken;
+    rest->length -= taken;
+    return part;
+}
+
+/* The line at a place of the sheet, without its end. */
+static struct text line_at(size_t place)
+{
+    struct text rest = { sheet, sheet_length };
+    struct text line = cut(&rest, '\n');
+    while (place-- > 0)
+        line = cut(&rest, '\n');
+    return line;
+}
+
+/* The word at a place of a line. Of several spaces in a row, each but the last ends no word. */
+static struct text word_at(struct text line, size_t place)
+{
+    while (line.length > 0) {
+        struct text word = cut(&line, ' ');
+        if (word.length > 0 && place-- == 0)
+            return word;
+    }
+    return line; /* it is empty; for a place in a record of lig_sheet there is a word */
+}
+
+/* A line that is refused may hold any bytes. */
+static void print_line(size_t place)
+{
+    struct text line = line_at(place);
+    printf("  line %zu: \"", place + 1);
+    for (size_t k = 0; k < line.length; k++)
+        putchar(line.start[k] >= 0x20 && line.start[k] < 0x7F ? line.start[k] : '?');
     printf("\"\n");
 }
 
-/* Reads the line into plan and pairs. A number of lig.h. */
-static unsigned read_order(void)
+/* The spelling is taken from the line itself: each of its words stands on the card as it is. */
+static void print_word(struct text line, size_t place)
 {
-    reading = lig_read(card, card_length, line, line_length,
-                       chart, sizeof chart, plan, sizeof plan);
-    if (lig_number(reading) != LIG_OK)
-        return lig_number(reading);
-    plan_length = LIG_STEP_BYTES * lig_steps(reading);
-
-    /* The plan lies in memory that may fail, so it is not used before it has been checked. */
-    uint64_t answer = lig_check(card, card_length, line, line_length, plan, plan_length);
-    if (lig_number(answer) != LIG_OK)
-        return lig_number(answer);
-
-    answer = lig_pairs(card, card_length, line, line_length, plan, plan_length,
-                       pairs, sizeof pairs);
-    pairs_length = LIG_PAIR_BYTES * lig_count(answer);
-    return lig_number(answer);
-}
-
-/*
- * The number of the word at a place of the line. The plan, which has passed, has one step for it,
- * and the production of that step is of kind 0 and holds the number. Without such a step: a number
- * that lig_name refuses.
- */
-static size_t word_at(uint8_t place)
-{
-    const uint8_t *productions = card + WORDS_AT + WORD_BYTES * card[WORD_COUNT_AT];
-    for (size_t at = 0; at < plan_length; at += LIG_STEP_BYTES) {
-        const uint8_t *production = productions + PRODUCTION_BYTES * plan[at];
-        if (production[0] == 0 && plan[at + 1] == place)
-            return production[2];
-    }
-    return SIZE_MAX;
-}
-
-/* Finds the name of each paired word. A number of lig.h. */
-static unsigned find_names(void)
-{
-    for (size_t k = 0; k < pairs_length; k++) {
-        names[k] = lig_name(card, card_length, word_at(pairs[k]));
-        if (lig_number(names[k]) != LIG_OK)
-            return lig_number(names[k]);
-    }
-    return LIG_OK;
-}
-
-/* A spelling has no zero at its end, so it is printed by its length. */
-static void print_word(size_t k)
-{
-    printf("%.*s (word %u)", (int)lig_length(names[k]),
-           (const char *)card + lig_offset(names[k]), pairs[k]);
+    struct text word = word_at(line, place);
+    printf("%.*s (word %zu)", (int)word.length, (const char *)word.start, place + 1);
 }
 
 /* Here a real controller writes to its valves. */
-static void set_registers(void)
+static void set_registers(size_t count)
 {
-    if (pairs_length == 0)
-        printf("  sets nothing\n");
-    for (size_t k = 0; k < pairs_length; k += LIG_PAIR_BYTES) {
-        printf("  set ");
-        print_word(k);
+    printf("  accepted: %zu records\n", count);
+    for (size_t k = 0; k < count; k++) {
+        const uint8_t *record = records + LIG_SHEET_RECORD_BYTES * k;
+        struct text line = line_at(record[0]);
+        printf("  line %u: set ", record[0] + 1u);
+        print_word(line, record[1]);
         printf(" to ");
-        print_word(k + 1);
+        print_word(line, record[2]);
         putchar('\n');
     }
 }
 
-static void obey_line(void)
+/* Is the refusal about one line? If not, the answer of lig_sheet has line 0, which says nothing. */
+static int has_line(unsigned number)
 {
-    unsigned number = read_order();
-    if (lig_words(reading) != 0)
-        printf("  %zu words, %zu items, %zu steps\n",
-               lig_words(reading), lig_items(reading), lig_steps(reading));
-    if (number == LIG_OK)
-        number = find_names();
-    if (number == LIG_OK)
-        set_registers();
-    else
-        print_refusal(number);
+    if (number == LIG_SHEET_LONG)
+        return 0;
+    return lig_mender(number) == LIG_BY_SHIFT_LEADER || number == LIG_CHART_ROOM;
 }
 
-static int obey_lines(void)
+/* 0 where the registers are set. */
+static int obey_sheet(void)
 {
-    unsigned long count = 0;
-    enum input input;
-    while ((input = next_line()) != INPUT_END) {
-        if (input == INPUT_FAILED)
-            return -1;
-        printf("line %lu: ", ++count);
-        if (input == INPUT_LINE) {
-            print_line();
-            obey_line();
-        } else {
-            printf("refused, longer than %d bytes\n", LINE_ROOM);
-        }
+    printf("sheet: ");
+    if (sheet_length > SHEET_ROOM) {
+        printf("refused, longer than %d bytes\n", SHEET_ROOM);
+        return -1;
     }
-    return 0;
+    printf("%zu bytes\n", sheet_length);
+    uint64_t answer = lig_sheet(card, card_length, sheet, sheet_length,
+                                chart, sizeof chart, records, sizeof records);
+    unsigned number = lig_number(answer);
+    if (number == LIG_OK) {
+        set_registers(lig_records(answer));
+        return 0;
+    }
+    print_refusal(number);
+    if (has_line(number))
+        print_line(lig_line(answer));
+    return -1;
 }
 
 int main(int argc, char **argv)
@@ -224,13 +157,21 @@ int main(int argc, char **argv)
         return 2;
     }
     printf("lig.h %s, card: %zu bytes\n", LIG_VERSION, card_length);
+
+    /* lig_sheet checks the card too, but a card is better refused before anybody writes a sheet. */
     unsigned number = lig_number(lig_card_check(card, card_length));
-    if (number != LIG_OK)
+    int failed = 0, refused = number != LIG_OK;
+    if (refused)
         print_refusal(number);
-    int failed = number == LIG_OK && obey_lines() != 0;
+    else if (load_sheet() != 0)
+        failed = 1;
+    else
+        refused = obey_sheet() != 0;
+    if (refused)
+        printf("  no register is set\n");
     if (fflush(stdout) != 0 || ferror(stdout) || failed) {
         fprintf(stderr, "controller: input or output failed\n");
         return 2;
     }
-    return number == LIG_OK ? 0 : 1;
+    return refused ? 1 : 0;
 }

@@ -272,7 +272,7 @@ uint64_t lig_pairs(const uint8_t *card, size_t card_length,
  * lig_name: where does the card spell this word?
  *
  * The word is given by its number, which counts the words of the card from 0. For the word at a
- * place of a line, examples/controller.c shows how its number is found in the plan.
+ * place of a line, examples/line-by-line.c shows how its number is found in the plan.
  *
  * Refusals, in this order: the card's 11 to 16; then 35, for a number that is not below the card's
  * count of words. With LIG_OK the spelling is lig_length bytes, 1 to 11, from card + lig_offset on:
