@@ -11,13 +11,14 @@
 
 #include "lig.h"
 
-enum { FILL = 0xA5, MARGIN = 16, AREA = 256 };
+enum { FILL = 0xA5, MARGIN = 16, AREA = 4096, SHEET_ROOM = 8192 };
 
 static uint8_t card[LIG_MOST_CARD_BYTES];
 static size_t card_length;
 static uint8_t chart_area[AREA];
 static uint8_t plan_area[AREA];
 static uint8_t pair_area[AREA];
+static uint8_t output_area[AREA];
 
 static const uint8_t *bytes_of(const char *text)
 {
@@ -126,27 +127,127 @@ static void try_name(size_t word)
            (const char *)card + lig_offset(answer));
 }
 
+/* Ends of lines are shown as in C. */
+static void print_text(const char *text)
+{
+    putchar('"');
+    for (; *text != '\0'; text++)
+        if (*text == '\n')
+            printf("\\n");
+        else
+            putchar(*text);
+    putchar('"');
+}
+
+/* lig_sheet on so many copies of a text with another one behind them. */
+static void try_copies(size_t copies, const char *text, const char *last, size_t chart_length,
+                       size_t output_length)
+{
+    static uint8_t sheet[SHEET_ROOM];
+    size_t length = 0;
+    for (size_t k = 0; k < copies; k++, length += strlen(text))
+        memcpy(sheet + length, text, strlen(text));
+    memcpy(sheet + length, last, strlen(last));
+    length += strlen(last);
+    memset(chart_area, FILL, sizeof chart_area);
+    memset(output_area, FILL, sizeof output_area);
+    uint64_t answer = lig_sheet(card, card_length, sheet, length, chart_area + MARGIN, chart_length,
+                                output_area + MARGIN, output_length);
+    printf("sheet ");
+    if (copies > 0) {
+        printf("%zu times ", copies);
+        print_text(text);
+        printf(" and ");
+    }
+    print_text(last);
+    printf(", %zu, %zu: %u, line %zu, %zu records", chart_length, output_length,
+           lig_number(answer), lig_line(answer), lig_records(answer));
+    print_room("chart", chart_area, chart_length);
+    print_room("output", output_area, output_length);
+    printf("\n");
+}
+
+static void try_sheet(const char *text, size_t chart_length, size_t output_length)
+{
+    try_copies(0, "", text, chart_length, output_length);
+}
+
+/* No line, one and two: where a line ends, and which of them fails. */
+static void few_lines(void)
+{
+    try_sheet("", 0, 0);
+    try_sheet("", 80, 3);
+    try_sheet("\n", 80, 3);
+    try_sheet("  ", 80, 3);
+    try_sheet("coir takes mild", 80, 3);
+    try_sheet("coir takes mild\n", 80, 3);
+    try_sheet("coir takes mild\n\n", 80, 6);
+    try_sheet("\ncoir takes mild", 80, 6);
+    try_sheet("coir takes mild\nTakes", 80, 6);
+    try_sheet("coir takes mild\ncoir gives mild", 80, 6);
+    try_sheet("coir takes mild\ntakes", 80, 6);
+    try_sheet("coir takes mild\ntakes\n\n", 80, 6);
+    try_sheet("coir takes mild\ntakes", 80, 2);
+}
+
+/* The chart room and the output room: 31 is answered at its line, 33 only after all of them. */
+static void sheet_rooms(void)
+{
+    const char *two = "coir takes mild\ncoir wool takes mild rich\n";
+    try_sheet(two, 79, 9);
+    try_sheet(two, 80, 9);
+    try_sheet(two, 143, 8);
+    try_sheet(two, 144, 8);
+    try_sheet(two, 144, 0);
+    try_sheet(two, 144, 9);
+    try_sheet(two, 200, 20);
+    try_sheet("coir wool takes mild rich\ncoir takes mild", 144, 9);
+}
+
+/* As many lines as there may be and one more, and as many records as there may be. */
+static void many_lines(void)
+{
+    const char *eleven = "coir coir coir coir coir coir coir coir coir coir coir takes "
+                         "mild mild mild mild mild mild mild mild mild mild mild\n";
+    try_copies(64, "coir takes mild\n", "", 80, 192);
+    try_copies(63, "coir takes mild\n", "coir takes mild", 80, 191);
+    try_copies(63, "coir takes mild\n", "takes", 80, 192);
+    try_copies(64, "coir takes mild\n", "coir takes mild", 80, 195);
+    try_copies(65, "coir takes mild\n", "", 80, 195);
+    try_copies(64, "Takes\n", "", 80, 192);
+    try_copies(64, "Takes\n", "\n", 80, 192);
+    try_copies(64, eleven, "", 2000, LIG_MOST_SHEET_OUTPUT);
+    try_copies(64, eleven, "", 2000, LIG_MOST_SHEET_OUTPUT - 1);
+}
+
 /*
- * All five calls on a card that is cut to a length and has one byte changed. The line, the plan and
- * the word's number are wrong too, but the card's refusal comes first.
+ * All six calls on a card that is cut to a length and has one byte changed. The line, the plan, the
+ * word's number and the sheet are wrong too, but the card's refusal comes first.
  */
 static void try_card(size_t length, size_t at, uint8_t value)
 {
     const uint8_t *bad = bytes_of("Takes");
-    uint8_t right = card[at];
+    uint8_t right = card[at], ends[LIG_MOST_LINES + 1];
     card[at] = value;
+    memset(ends, '\n', sizeof ends);
     memset(chart_area, FILL, sizeof chart_area);
     memset(plan_area, FILL, sizeof plan_area);
     memset(pair_area, FILL, sizeof pair_area);
+    memset(output_area, FILL, sizeof output_area);
     uint64_t read = lig_read(card, length, bad, 5, chart_area + MARGIN, 16, plan_area + MARGIN, 3);
     uint64_t found = lig_pairs(card, length, bad, 5, bad, 5, pair_area + MARGIN, 2);
+    uint64_t sheet = lig_sheet(card, length, ends, sizeof ends, chart_area + MARGIN, 16,
+                               output_area + MARGIN, 3);
     printf("card of %zu bytes, byte %zu is %u: card %u, read %u, check %u, pairs %u, name %u",
            length, at, value, lig_number(lig_card_check(card, length)), lig_number(read),
            lig_number(lig_check(card, length, bad, 5, bad, 5)), lig_number(found),
            lig_number(lig_name(card, length, SIZE_MAX)));
+    printf(", sheet %u, line %zu, %zu records", lig_number(sheet), lig_line(sheet),
+           lig_records(sheet));
     print_room("chart", chart_area, 16);
     print_room("plan", plan_area, 3);
     print_room("pair", pair_area, 2);
+    print_room("output", output_area, 3);
     printf("\n");
     card[at] = right;
 }
@@ -193,6 +294,9 @@ int main(int argc, char **argv)
     for (size_t word = 0; word <= 5; word++)
         try_name(word);
     try_name(SIZE_MAX);
+    few_lines();
+    sheet_rooms();
+    many_lines();
     card_limits();
     same_words();
     return fflush(stdout) == 0 && !ferror(stdout) ? 0 : 2;
