@@ -7,7 +7,7 @@ use mathlib.Core.Bool.{Bool, true, false, cond, false≢true}
 use mathlib.Core.List.{List, []}
 use lib.Dec.{eqb, leb, ltb}
 use lib.ListN.{length}
-use borrow.Author.Tests.{eqb-true, eq-eqb, leb-true, ltb-false}
+use borrow.Author.Tests.{eqb-true, eq-eqb, leb-true, le-ltb, ltb-false}
 use Rattle.grammar.specs.ItemList.{item, among}
 use Rattle.grammar.specs.Items.{bare}
 use Rattle.grammar.specs.Pairs.{Pair}
@@ -60,6 +60,13 @@ passing-pairs-half card line bytes e =
 pub passing-pairs-few : (card line bytes : List ℕ) → checkNumber card line bytes ≡ 0 → length (planPairs card (stepsOf bytes)) ≤ 11
 passing-pairs-few card line bytes e =
     omega (arith, passing-pairs-half card line bytes e, accepted-line card line (check-sound card line bytes e .0) .most-words)
+
+-- With room for them Pairs answers all of them.
+pub passing-pairs : (card line bytes : List ℕ) (room : ℕ) → checkNumber card line bytes ≡ 0
+    → 2 * length (planPairs card (stepsOf bytes)) ≤ room
+    → pairsAnswer card line bytes room ≡ record { number = 0; pairs = planPairs card (stepsOf bytes) }
+passing-pairs card line bytes room e h =
+    rw (eq-eqb (checkNumber card line bytes) 0 e, le-ltb room (2 * length (planPairs card (stepsOf bytes))) h)
 
 pub record PairsFit (r : PairsAnswer) : Type 0 where
   pub number : r .number ≤ 35

@@ -17,7 +17,7 @@ use Rattle.layout.specs.Steps.{planBytes, pairsBytes, stepsOf}
 use Rattle.layout.specs.Answers.{inputNumber, ReadAnswer, readAnswer, planPairs, PairsAnswer, pairsAnswer, checkNumber, Derives}
 use Rattle.layout.proofs.Lengths.{pairs-bytes-length}
 use Rattle.layout.proofs.Checking.{steps-bytes, check-complete}
-use Rattle.layout.proofs.Packing.{read-fits, pairs-fit}
+use Rattle.layout.proofs.Packing.{read-fits, passing-pairs, pairs-fit}
 use Rattle.check_pairs.specs.Paired.{Pairs}
 use Rattle.check_pairs.specs.declared.Paired.{Paired}
 use Rattle.reader.specs.Read.{answerFrom, Reads}
@@ -37,23 +37,13 @@ pair-lines [] = refl
 pair-lines (pair a b ∷ pairs) = ap (λ (l : List ℕ). pairLine (placeIn a) (placeIn b) ++ l) (pair-lines pairs)
 
 -- The pairs of a leftmost derivation: all of them fit the room.
-pairs-when : (b short : Bool) (x : ℕ) (pairs : List Pair) → b ≡ true → short ≡ false
-    → cond {A = PairsAnswer} b (cond short (record { number = 33; pairs = [] }) (record { number = 0; pairs = pairs })) (record { number = x; pairs = [] }) .pairs
-    ≡ pairs
-pairs-when true false x pairs e d = refl
-pairs-when true true x pairs e d = absurd (false≢true (sym d))
-pairs-when false short x pairs e d = absurd (false≢true e)
-
 module _ (card line : List ℕ) (plan : List PlanStep) (e : inputNumber card line ≡ 0) (d : Derives card line plan) where
   pairs-in : (room : ℕ) → 2 * length (pairsOf (grammarOf card) plan) ≤ room
       → pairsAnswer card line (planBytes plan) room .pairs ≡ pairsOf (grammarOf card) plan
   pairs-in room h =
-      let bytes = planBytes plan in
-      let pairs = planPairs card (stepsOf bytes) in
-      let s : pairs ≡ pairsOf (grammarOf card) plan = ap (planPairs card) (steps-bytes plan) in
-      let x = checkNumber card line bytes in
-      pairs-when (eqb x 0) (ltb room (2 * length pairs)) x pairs (eq-eqb x 0 (check-complete card line plan e d))
-      (le-ltb room (2 * length pairs) (omega (arith, ap length s)))
+      let s = ap (planPairs card) (steps-bytes plan) in
+      ap (λ (r : PairsAnswer). r .pairs)
+      (passing-pairs card line (planBytes plan) room (check-complete card line plan e d) (omega (arith, ap length s)))
       ∙ s
 
   pairs-few : length (pairsOf (grammarOf card) plan) ≤ 47

@@ -7,3 +7,5 @@ pub mod Handing
 pub mod AnswerLaws
 pub mod Outcome
 pub mod Fits
+pub mod OneLine
+pub mod Examples

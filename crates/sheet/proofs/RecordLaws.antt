@@ -77,16 +77,16 @@ module _ {card plan before after : List ℕ} {r : Paired} (checked : Checked car
   pub taken-few : length (take (2 * r .count) after) ≡ 2 * r .count
   taken-few = omega (arith, ap length pairs-taken, pairs-bytes-length pairs, count-pairs)
 
-  pub adds-records : {k : ℕ} {old new : List ℕ} {count next : ℕ} → Wrote old (3 * count) (placed k (take (2 * r .count) after)) new next
-      → AddsRecords card plan k old count new (count + r .count)
-  adds-records {k} {old} {new} {count} {next} w =
+  pub adds-records : {k : ℕ} {old new : List ℕ} {count at next : ℕ} → Wrote old at (placed k (take (2 * r .count) after)) new next
+      → at ≡ 3 * count → AddsRecords card plan k old count new (count + r .count)
+  adds-records {k} {old} {new} {count} {at} {next} w there =
       let bytes : placed k (take (2 * r .count) after) ≡ sheetBytes (map (sheetRecord k) pairs) =
       ap (placed k) pairs-taken ∙ placed-pairs k pairs in
       let w′ = rw bytes at w in
       let ends : next ≡ 3 * (count + r .count) =
-      omega (arith, w′ .ends, sheet-bytes-length (map (sheetRecord k) pairs), length-map pairs (sheetRecord k), count-pairs) in
+      omega (arith, there, w′ .ends, sheet-bytes-length (map (sheetRecord k) pairs), length-map pairs (sheetRecord k), count-pairs) in
       record {
         total = ap (λ (n : ℕ). count + n) count-pairs;
         few = pairs-few;
-        wrote = rw ends at w′;
+        wrote = rw (there, ends) at w′;
       }

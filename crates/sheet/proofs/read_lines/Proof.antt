@@ -44,7 +44,8 @@ returns c =
     let called = c .before .before .before in
     let turn = c .before .before .before .before .before .before .before .before .before in
     let ended = c .before .before .before .before .before .before .before .line-end .ensures in
-    fails-there (turn .loop .inv) ended (turn .before .before .before .before .pre .1) (called .add-line .ensures) (called .add-line .kept .1 .1 .1 .0) (c .if1 .taken)
+    fails-there (turn .loop .inv) ended (turn .before .before .before .before .pre .1) (called .add-line .ensures) (called .add-line .kept .1 .1 .1 .0)
+    (λ z. omega (arith, c .if1 .taken))
 
 add-place : tie.Need-add-place Inv-loop μ-loop
 add-place c =
@@ -66,7 +67,8 @@ loop-again c =
     let called = c .before .before .before in
     let turn = c .before .before .before .before .before .before .before .before .before in
     let ended = c .before .before .before .before .before .before .before .line-end .ensures in
-    one-more (turn .loop .inv) ended (turn .before .before .before .before .pre .1) (called .add-line .ensures) (called .add-line .kept .1 .1 .1 .0) (c .if1 .left)
+    one-more (turn .loop .inv) ended (turn .before .before .before .before .pre .1) (called .add-line .ensures) (called .add-line .kept .1 .1 .1 .0)
+    (omega (arith, c .if1 .left))
 
 same-length-2 : tie.Need-same-length-2 Inv-loop μ-loop
 same-length-2 c = c .before .loop .inv .same-length

@@ -51,7 +51,7 @@ returns : tie.Need-returns
 returns c =
     let p = c .before .before .before .before in
     let checked = p .before .before .before .before .pre .0 in
-    adds-records checked (p .pairs-of .ensures) refl (c .put-records .ensures)
+    adds-records checked (p .pairs-of .ensures) refl (c .put-records .ensures) (omega arith)
 
 pub add-records-spec : {M : Type 1} → statement M
 add-records-spec =
