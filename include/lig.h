@@ -343,16 +343,18 @@ uint64_t lig_sheet(const uint8_t *card, size_t card_length,
  * cards and lines. The longest median that one run saw, on two cores of a virtual machine (AMD
  * EPYC) with nothing else running, and the workload that took it:
  *
- *     lig_card_check          878   limits, 780 bytes
- *     lig_read         39,779,659   worst found, 24 words
- *     lig_check             7,095   limits, 23 words
- *     lig_pairs             6,906   limits, 23 words
- *     lig_name                829   limits, 780 bytes
+ *     lig_card_check          657   limits, 780 bytes
+ *     lig_read         22,814,130   worst found, 24 words
+ *     lig_check             3,870   limits, 23 words
+ *     lig_pairs             4,117   limits, 23 words
+ *     lig_name                582   limits, 780 bytes
+ *     lig_sheet        25,180,987   sheet of 64: ambiguous, 24 words
  *
  * "limits" is a card at its limits; "worst found" is the card and line, of 62,469 items, on which a
- * search found lig_read slowest. Another machine, card or line may take longer. With a shorter
- * chart room lig_read ends sooner where there are more items than it holds. docs/PERFORMANCE.md has
- * the times of all workloads.
+ * search found lig_read slowest. lig_sheet takes about as long as lig_read takes for all of its
+ * lines: 64 lines like that one were not timed. Another machine, card or line may take longer. With
+ * a shorter chart room lig_read ends sooner where there are more items than it holds.
+ * docs/PERFORMANCE.md has the times of all workloads.
  */
 #define LIG_STACK_CARD_CHECK 256
 #define LIG_STACK_READ 63872
