@@ -106,7 +106,8 @@ static inline unsigned lig_mender(unsigned number)
  * A plan of n words has 2n - 1 steps: one for each word, and n - 1 that split a stretch in two. A
  * pair takes two of those n - 1, one step that gives an index and one that takes it away, so there
  * are at most (n - 1) / 2 pairs: 11 for 24 words. (Proved, for every plan that lig_check passes:
- * passing-pairs-half in crates/layout/proofs/Packing.antt.)
+ * passing-pairs-half in crates/layout/proofs/Packing.antt; for a sheet: output-enough in
+ * crates/sheet/proofs/Fits.antt.)
  */
 #define LIG_MOST_CARD_BYTES 780 /* no longer card is accepted */
 #define LIG_MOST_WORDS 24       /* in a line */

@@ -10,7 +10,7 @@ use lib.ListN.{length, take, drop, replicate, getElem?, length-append, length-ma
 use lib.Seq.{length-take-le}
 use Rattle.grammar.specs.Rewriting.{Rule, Action, Take, Keep, Give}
 use Rattle.grammar.specs.Plan.{PlanStep, productionIn}
-use Rattle.grammar.specs.Pairs.{Stretch, sideOf, placeIn, Pair, pair}
+use Rattle.grammar.specs.Pairs.{Stretch, sideOf, placeIn, Pair}
 use Rattle.grammar.specs.Matching.{takesAction, takesRule, takesOf, matchedAction, matchedRule, matched, oneGive}
 use Rattle.grammar.proofs.StandsLaws.{none-some, some-same}
 use Rattle.grammar.proofs.PairsLaws.{matchedAction-length}

@@ -1,14 +1,11 @@
 -- Check's number is 0 exactly for the bytes of a leftmost derivation of an accepted line: bytes and steps are each other's, and the
 -- plan test decides the rest. So what Read may write passes Check, and what passes Check derives the line in 2n − 1 steps.
 use Prim.Native.Nat.{ℕ, _*_, _-_}
-use native.Mathlib.Omega.{arith}
 use mathlib.Core.Path.{_≡_, refl, sym, _∙_, ap, subst}
-use mathlib.Core.Bool.{Bool, true, false, false≢true}
+use mathlib.Core.Bool.{true, false, false≢true}
 use mathlib.Core.List.{List, [], _∷_, _++_}
 use mathlib.Core.Option.{Option, none, some}
-use lib.Dec.{eqb}
 use lib.ListN.{length, drop}
-use borrow.Author.Tests.{eqb-true, eq-eqb}
 use Rattle.grammar.specs.Input.{Holds}
 use Rattle.grammar.specs.Plan.{PlanStep, planStep, LeftmostDerivation, passes}
 use Rattle.grammar.proofs.StandsLaws.{none-some, some-same}

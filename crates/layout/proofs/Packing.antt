@@ -1,21 +1,21 @@
 -- Each part of a call's answer fits 16 bits, so that `pack` loses nothing: numbers are at most 35, words 24, items 65535, steps 47,
 -- and a plan that passes has fewer than half as many pairs as words.
-use Prim.Native.Nat.{ℕ, _+_, _*_, _-_, _/_, _≤_, _<_}
+use Prim.Native.Nat.{ℕ, _+_, _*_, _-_, _≤_}
 use native.Mathlib.Omega.{arith}
-use mathlib.Core.Path.{_≡_, refl, sym, _∙_, ap, subst}
-use mathlib.Core.Bool.{Bool, true, false, cond, false≢true}
+use mathlib.Core.Path.{_≡_, refl}
+use mathlib.Core.Bool.{Bool, true, false, cond}
 use mathlib.Core.List.{List, []}
-use lib.Dec.{eqb, leb, ltb}
+use lib.Dec.{eqb, ltb}
 use lib.ListN.{length}
-use borrow.Author.Tests.{eqb-true, eq-eqb, leb-true, le-ltb, ltb-false}
+use borrow.Author.Tests.{eqb-true, eq-eqb, le-ltb, ltb-false}
 use Rattle.grammar.specs.ItemList.{item, among}
 use Rattle.grammar.specs.Items.{bare}
 use Rattle.grammar.specs.Pairs.{Pair}
 use Rattle.grammar.proofs.PairsCount.{pairs-half}
 use Rattle.layout.specs.Records.{capacity}
-use Rattle.layout.specs.Steps.{planRoom, planSteps, stepsOf}
+use Rattle.layout.specs.Steps.{planRoom, stepsOf}
 use Rattle.layout.specs.Answers.{inputNumber, wordsIn, derivable, ReadAnswer, refusal, found, readAnswer}
-use Rattle.layout.specs.Answers.{planPasses, checkNumber, planPairs, PairsAnswer, pairsWithin, pairsAnswer}
+use Rattle.layout.specs.Answers.{checkNumber, planPairs, PairsAnswer, pairsWithin, pairsAnswer}
 use Rattle.layout.proofs.Accepting.{accepted-line, input-small, check-small}
 use Rattle.layout.proofs.CardLaws.{card-one-sided}
 use Rattle.layout.proofs.Checking.{check-sound, steps-bytes}

@@ -1,23 +1,21 @@
 -- What Read's number says of derivations: 0 and 25 come only after every refusal before them is ruled out, and there the item of
 -- the start over the whole line is among the computed items exactly when the line has a derivation.
-use Prim.Native.Nat.{ℕ, _≤_, _*_}
+use Prim.Native.Nat.{ℕ}
 use native.Mathlib.Omega.{arith}
-use mathlib.Core.Path.{_≡_, refl, sym, _∙_, ap, subst}
+use mathlib.Core.Path.{_≡_, refl, sym, _∙_, subst}
 use mathlib.Core.Bool.{Bool, true, false, cond, false≢true}
-use mathlib.Core.List.{List, map}
-use lib.Dec.{eqb, leb, ltb}
+use mathlib.Core.List.{List}
+use lib.Dec.{eqb, ltb}
 use lib.ListN.{length, length-map}
-use borrow.Author.Tests.{eqb-true, eqb-false, eq-eqb, le-ltb, ltb-false}
-use Rattle.grammar.specs.Rewriting.{Derivation}
-use Rattle.grammar.specs.Input.{Holds, Below, wordIs}
+use borrow.Author.Tests.{eqb-true, eq-eqb, le-ltb, ltb-false}
+use Rattle.grammar.specs.Input.{Holds, Below}
 use Rattle.grammar.specs.Items.{bare, Derived}
-use Rattle.grammar.specs.ItemList.{item, items, among}
+use Rattle.grammar.specs.ItemList.{item, items}
 use Rattle.grammar.proofs.InputLaws.{words-below}
 use Rattle.grammar.proofs.ItemListExact.{items-sound, items-complete, among-true, among-mem}
 use Rattle.grammar.proofs.Existence.{derivation-item, item-derivation}
 use Rattle.layout.specs.Card.{grammarOf}
 use Rattle.layout.specs.Line.{wordsOf, numbersOf, numberOfWord, orZero}
-use Rattle.layout.specs.Records.{capacity}
 use Rattle.layout.specs.Steps.{planRoom, planSteps}
 use Rattle.layout.specs.Answers.{inputNumber, wordsIn, lineTest, derivable, startFound, HasDerivation}
 use Rattle.layout.specs.Answers.{ReadAnswer, refusal, found, outnumber, chartAnswer, readAnswer, RoomEnough}

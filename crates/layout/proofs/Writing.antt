@@ -1,6 +1,6 @@
 -- Bytes that are written one stretch after the other are one stretch: a later one leaves what stands before it, the earlier
 -- stretch in it, and past its own end it finds what was there at first.
-use Prim.Native.Nat.{ℕ, _+_, _*_, _≤_}
+use Prim.Native.Nat.{ℕ, _+_, _≤_}
 use native.Mathlib.Omega.{arith}
 use native.Mathlib.Numerals.{add-one, add-two, add-three}
 use mathlib.Core.Path.{_≡_, refl, sym, _∙_}

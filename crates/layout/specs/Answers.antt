@@ -1,12 +1,12 @@
 -- Document 01, "Refusals by who can cause them" and the answers of the five calls: each a function of the inputs alone, the order of
 -- refusals in one place, and what every lent room holds afterwards. Free, and named so: which chart, in what order of its items and
 -- with which recorded steps; and which leftmost derivation the plan room gets.
-use Prim.Native.Nat.{ℕ, zero, suc, _+_, _*_, _^_, _≤_}
+use Prim.Native.Nat.{ℕ, _+_, _*_, _^_, _≤_}
 use mathlib.Core.Path.{_≡_}
 use mathlib.Core.Bool.{Bool, true, false, cond, _||_}
 use mathlib.Core.List.{List, [], _∷_, _++_}
 use mathlib.Core.Option.{Option, none, some}
-use lib.Dec.{eqb, leb, ltb}
+use lib.Dec.{eqb, ltb}
 use lib.ListN.{length, drop, replicate}
 use Rattle.grammar.specs.Rewriting.{Derivation}
 use Rattle.grammar.specs.Input.{Holds, wordIs}

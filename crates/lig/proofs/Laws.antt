@@ -1,5 +1,5 @@
 -- A packed answer says what the calls below it say: each part fits its bits, so it is read back from them.
-use Prim.Native.Nat.{ℕ, _+_, _*_, _/_, _%_, _^_, _≤_, _<_}
+use Prim.Native.Nat.{ℕ, _+_, _≤_, _<_}
 use native.Mathlib.Omega.{arith}
 use mathlib.Core.Path.{_≡_, refl, sym, _∙_, ap, subst}
 use mathlib.Core.List.{List}
@@ -7,9 +7,9 @@ use lib.Dec.{eqb}
 use borrow.Author.Tests.{eq-eqb, ne-eqb}
 use lib.ListN.{length}
 use Rattle.layout.specs.Card.{entryAt, spellingLength}
-use Rattle.layout.specs.Answers.{ReadAnswer, readAnswer, readPacked, pairsAnswer, pack, chartState, ChartAfter, PlanAfter}
+use Rattle.layout.specs.Answers.{readPacked, pack, chartState, ChartAfter, PlanAfter}
 use Rattle.layout.specs.Answers.{nameNumber, nameAnswer, namePacked}
-use Rattle.layout.proofs.Packing.{ReadFits, read-fits, PairsFit, pairs-fit}
+use Rattle.layout.proofs.Packing.{ReadFits, read-fits, pairs-fit}
 use Rattle.reader.specs.Read.{answerFrom, Reads}
 use Rattle.reader.specs.declared.read.Answer.{Answer}
 use Rattle.check_pairs.specs.Paired.{Pairs}

@@ -3,18 +3,17 @@
 use Prim.Native.Nat.{ℕ, _+_, _*_, _≤_}
 use native.Mathlib.Omega.{arith}
 use mathlib.Core.Path.{_≡_, refl, sym, _∙_, ap, subst}
-use mathlib.Core.Bool.{Bool, true, false, cond, false≢true}
+use mathlib.Core.Bool.{Bool}
 use mathlib.Core.List.{List, [], _∷_, _++_}
-use lib.Dec.{eqb, ltb}
-use lib.ListN.{length, take, drop, length-append}
+use lib.ListN.{length, take, drop}
 use lib.Seq.{take-at}
-use borrow.Author.Tests.{eq-eqb, ne-eqb, le-ltb}
+use borrow.Author.Tests.{eq-eqb, ne-eqb}
 use Rattle.grammar.specs.Lists.{concatMap}
 use Rattle.grammar.specs.Plan.{PlanStep, planStep}
 use Rattle.grammar.specs.Pairs.{placeIn, Pair, pair, pairsOf}
 use Rattle.layout.specs.Card.{grammarOf}
-use Rattle.layout.specs.Steps.{planBytes, pairsBytes, stepsOf}
-use Rattle.layout.specs.Answers.{inputNumber, ReadAnswer, readAnswer, planPairs, PairsAnswer, pairsAnswer, checkNumber, Derives}
+use Rattle.layout.specs.Steps.{planBytes, pairsBytes}
+use Rattle.layout.specs.Answers.{inputNumber, ReadAnswer, readAnswer, planPairs, PairsAnswer, pairsAnswer, Derives}
 use Rattle.layout.proofs.Lengths.{pairs-bytes-length}
 use Rattle.layout.proofs.Checking.{steps-bytes, check-complete}
 use Rattle.layout.proofs.Packing.{read-fits, passing-pairs, pairs-fit}

@@ -17,7 +17,7 @@ use Rattle.grammar.proofs.PlanBounds.{StepsWithin, noStep, oneStep, yields-with
 use Rattle.grammar.proofs.PairsInside.{pairs-inside}
 use Rattle.grammar.proofs.PairsCount.{pairs-half}
 use Rattle.layout.specs.Card.{productionCount, production, grammarOf}
-use Rattle.layout.specs.Answers.{inputNumber, wordsIn, Derives}
+use Rattle.layout.specs.Answers.{inputNumber, Derives}
 use Rattle.layout.proofs.CountedLaws.{table-length}
 use Rattle.layout.proofs.Accepting.{accepted-line, accepted-counts}
 use Rattle.layout.proofs.CardLaws.{card-one-sided}

@@ -4,7 +4,6 @@ use native.Mathlib.Omega.{arith}
 use mathlib.Core.Path.{_≡_, sym, _∙_, ap, subst}
 use mathlib.Core.Bool.{Bool}
 use mathlib.Core.List.{List}
-use lib.Dec.{eqb}
 use lib.ListN.{length, take, drop}
 use lib.Seq.{take-at}
 use borrow.Author.Tests.{eq-eqb}
@@ -13,7 +12,7 @@ use Rattle.layout.specs.Answers.{inputNumber, wordsIn, ReadAnswer, checkNumber,
 use Rattle.layout.proofs.Lengths.{plan-bytes-length}
 use Rattle.layout.proofs.Reading.{read-whole}
 use Rattle.reader.specs.declared.read.Answer.{Answer}
-use Rattle.reader.specs.Read.{answerFrom, Reads}
+use Rattle.reader.specs.Read.{Reads}
 
 module _ {card line oldChart oldPlan newChart newPlan : List ℕ} {r : Answer} (x : Reads card line oldChart oldPlan newChart newPlan r)
     (z : r .number ≡ 0) where

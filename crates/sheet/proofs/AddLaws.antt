@@ -1,11 +1,9 @@
 -- One line of a sheet: what Read promises with the reader's own plan room, and the records of the plan that stands there.
 use Prim.Native.Nat.{ℕ, _+_, _*_, _≤_}
 use native.Mathlib.Omega.{arith}
-use mathlib.Core.Path.{_≡_, refl, sym, _∙_, ap, subst}
-use mathlib.Core.Option.{Option, some}
+use mathlib.Core.Path.{_≡_, sym, _∙_, ap, subst}
 use mathlib.Core.List.{List, map}
 use lib.ListN.{length, take}
-use Rattle.grammar.specs.Plan.{PlanStep}
 use Rattle.grammar.specs.Pairs.{Pair, pairsOf}
 use Rattle.layout.specs.Card.{grammarOf}
 use Rattle.layout.specs.Steps.{stepsOf}
@@ -18,7 +16,6 @@ use Rattle.reader.specs.declared.read.Answer.{Answer}
 use Rattle.reader.proofs.PlanRead.{planned, plan-taken}
 use Rattle.sheet.specs.Sheet.{ownPlanRoom, readNumber, sheetRecord, sheetBytes}
 use Rattle.sheet.specs.Reading.{AddsRecords, Adds}
-use Rattle.sheet.specs.declared.Added.{Added}
 
 module _ {card line oldChart oldPlan newChart newPlan : List ℕ} {a : Answer} (x : Reads card line oldChart oldPlan newChart newPlan a)
     (own : length oldPlan ≡ ownPlanRoom) where

@@ -1,22 +1,22 @@
--- What a sheet's answer says, from the definitions alone: 0 that every line was read, 25 that the given line has no derivation. 32 is never
--- given, and a sheet of orders with room enough is accepted.
-use Prim.Native.Nat.{ℕ, _+_, _*_, _≤_, _<_}
+-- What a sheet's answer says, from the definitions alone: 0 that every line was read, 25 that the given line has no derivation, 33 that the
+-- output room is too short for the records. 32 is never given, and a sheet of orders with room enough is accepted.
+use Prim.Native.Nat.{ℕ, _*_, _≤_, _<_}
 use native.Mathlib.Omega.{arith}
-use mathlib.Core.Path.{_≡_, refl, sym, _∙_, ap, subst}
+use mathlib.Core.Path.{_≡_, refl, sym, _∙_, ap}
 use mathlib.Core.Logic.{_⊎_, inl, inr}
 use mathlib.Core.Bool.{Bool, true, false, cond, false≢true}
-use mathlib.Core.List.{List, [], _∷_, _++_, List·Memᴰ, List·Memᴰ·head, List·Memᴰ·tail}
-use mathlib.Core.Option.{Option, none, some}
+use mathlib.Core.List.{List, [], _∷_, List·Memᴰ, List·Memᴰ·head, List·Memᴰ·tail}
+use mathlib.Core.Option.{some}
 use lib.Dec.{eqb, ltb}
-use lib.ListN.{length, getD, length-append}
+use lib.ListN.{length, getD}
 use lib.Seq.{getD-append-seam}
-use borrow.Author.Tests.{eqb-true, eqb-false, eq-eqb, ne-eqb, le-ltb}
+use borrow.Author.Tests.{eqb-true, eqb-false, eq-eqb, ne-eqb, ltb-true, le-ltb}
 use Rattle.grammar.specs.Plan.{PlanStep}
 use Rattle.grammar.specs.ItemList.{item, among}
 use Rattle.grammar.specs.Items.{bare}
 use Rattle.layout.specs.Steps.{planRoom}
-use Rattle.layout.specs.Answers.{inputNumber, wordsIn, derivable, refusal, found, outnumber, ReadAnswer, readAnswer, HasDerivation}
-use Rattle.layout.proofs.RefusalLaws.{first-most, first-other}
+use Rattle.layout.specs.Answers.{inputNumber, wordsIn, derivable, refusal, found, outnumber, ReadAnswer, HasDerivation}
+use Rattle.layout.proofs.RefusalLaws.{first-other}
 use Rattle.layout.proofs.Accepting.{accepted-line, input-small}
 use Rattle.layout.proofs.Reading.{no-reading, derivation-read}
 use Rattle.split.specs.Lines.{linesOf}
@@ -25,23 +25,26 @@ use Rattle.sheet.specs.Sheet.{SheetRecord, SheetAnswer, refusedAt, recor
 use Rattle.sheet.specs.Promise.{Order, lineAt}
 use Rattle.sheet.proofs.CourseLaws.{AllRead, no-line, one-line, course-all, Went, to-end, up-to, went}
 
--- A line's number is never 32: the reader's own plan room is enough for 24 words.
-no-short : (b s o f : Bool) (x n count : ℕ) → x ≤ 24 → (b ≡ true → s ≡ false)
-    → cond b (cond s (refusal 32) (cond o (refusal 31) (found f n count))) (refusal x) .number ≡ 32 → ⊥
-no-short false s o f x n count h k e = omega arith
-no-short true true o f x n count h k e = false≢true (sym (k refl))
-no-short true false true f x n count h k e = omega arith
-no-short true false false true x n count h k e = omega arith
-no-short true false false false x n count h k e = omega arith
+-- A line's number is none above 25 but 31. So it is never 32: the reader's own plan room is enough for 24 words.
+no-other : (b s o f : Bool) (x n count v : ℕ) → x ≤ 24 → (b ≡ true → s ≡ false) → 25 < v → (v ≡ 31 → ⊥)
+    → cond b (cond s (refusal 32) (cond o (refusal 31) (found f n count))) (refusal x) .number ≡ v → ⊥
+no-other false s o f x n count v h k above not31 e = omega arith
+no-other true true o f x n count v h k above not31 e = false≢true (sym (k refl))
+no-other true false true f x n count v h k above not31 e = not31 (sym e)
+no-other true false false true x n count v h k above not31 e = omega arith
+no-other true false false false x n count v h k above not31 e = omega arith
 
-pub never-short : (card : List ℕ) (chartRoom : ℕ) (line : List ℕ) → readNumber card chartRoom line ≡ 32 → ⊥
-never-short card chartRoom line =
+never-other : (card : List ℕ) (chartRoom : ℕ) (line : List ℕ) (v : ℕ) → 25 < v → (v ≡ 31 → ⊥) → readNumber card chartRoom line ≡ v → ⊥
+never-other card chartRoom line v =
     let x = inputNumber card line in
     let n = wordsIn line in
     let all = derivable card line in
-    no-short (eqb x 0) (ltb ownPlanRoom (planRoom n)) (outnumber all chartRoom) (among (item 0 0 n bare) all) x n (length all)
+    no-other (eqb x 0) (ltb ownPlanRoom (planRoom n)) (outnumber all chartRoom) (among (item 0 0 n bare) all) x n (length all) v
     (input-small card line)
     (λ e. le-ltb ownPlanRoom (planRoom n) (omega (arith, accepted-line card line (eqb-true x 0 e) .most-words)))
+
+pub never-short : (card : List ℕ) (chartRoom : ℕ) (line : List ℕ) → readNumber card chartRoom line ≡ 32 → ⊥
+never-short card chartRoom line = never-other card chartRoom line 32 (omega arith) (omega arith)
 
 -- The records' own numbers.
 within-number : (records : List SheetRecord) (room : ℕ) → (recordsWithin records room .number ≡ 0) ⊎ (recordsWithin records room .number ≡ 33)
@@ -68,6 +71,17 @@ module _ (number : List ℕ → ℕ) (records : List SheetRecord) (room : ℕ) w
   other-line x (to-end a) n0 n33 e =
       absurd (elim (within-number records room) [ inl z ↦ n0 (sym e ∙ z) | inr z ↦ n33 (sym e ∙ z) ])
   other-line x (up-to read line others a ne) n0 n33 e = ap number (getD-append-seam read line others []) ∙ e
+
+  -- 33 is the records' own, and says that the room is too short for them.
+  short-records : {lines : List (List ℕ)} {c : Course} → Went number lines c → ((line : List ℕ) → number line ≡ 33 → ⊥)
+      → ended c .number ≡ 33 → room < 3 * length records
+  short-records (to-end a) never e = by-test (ltb room (3 * length records)) refl e
+    where
+      by-test : (b : Bool) → ltb room (3 * length records) ≡ b
+          → cond b (refusedAt 33 0) (record { number = 0; line = 0; records = records }) .number ≡ 33 → room < 3 * length records
+      by-test true t e = ltb-true room (3 * length records) t
+      by-test false t e = absurd (omega arith)
+  short-records (up-to read line others a ne) never e = absurd (never line e)
 
 module _ (card sheet : List ℕ) (chartRoom room : ℕ) (plans : List (List PlanStep)) where
   abbrev number : List ℕ → ℕ
@@ -139,3 +153,15 @@ module _ (card sheet : List ℕ) (chartRoom room : ℕ) (plans : List (List Plan
       ap (λ (a : SheetAnswer). a .number)
       (lines-answer z ∙ ap (ended number records room) (course-all (orders-read (linesOf sheet) h)))
       ∙ rw (le-ltb room (3 * length records) fits) refl
+
+  pub output-short : sheetAnswer card sheet chartRoom room plans .number ≡ 33 → room < 3 * length records
+  output-short e =
+      by-number 33 (λ y. absurd (first-other 32 (sheetRefusals card sheet) refl y))
+      (λ z. short-records number records room (went number (linesOf sheet))
+      (λ line. never-other card chartRoom line 33 (omega arith) (omega arith))
+      (sym (ap (λ (a : SheetAnswer). a .number) (lines-answer z)) ∙ e)) e
+
+  -- Where a line fails, the answer is the same whatever plans the others have.
+  pub fails-whatever : {line : List ℕ} (others : List (List PlanStep)) → sheetCourse card sheet chartRoom .failing ≡ some line
+      → sheetAnswer card sheet chartRoom room plans ≡ sheetAnswer card sheet chartRoom room others
+  fails-whatever others e = rw e refl

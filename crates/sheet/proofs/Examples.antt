@@ -7,7 +7,7 @@ use lib.ListN.{replicate}
 use Rattle.grammar.specs.Plan.{PlanStep}
 use Rattle.layout.specs.Card.{headerLength}
 use Rattle.layout.specs.Steps.{stepsOf}
-use Rattle.layout.specs.Tomato.{tomatoCard, coirTakesMild, coirWoolTakesMildRich, coirWoolTakesRichMild, takesAlone, planOne, planTwo}
+use Rattle.layout.specs.Tomato.{tomatoCard, coirTakesMild, coirWoolTakesMildRich, coirWoolTakesRichMild, planOne, planTwo}
 use Rattle.split.specs.Lines.{newline}
 use Rattle.sheet.specs.Sheet.{SheetAnswer, refusedAt, sheetAnswer, sheetBytes, packSheet}
 

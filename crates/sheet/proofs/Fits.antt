@@ -2,9 +2,9 @@
 -- most 11 records a line.
 use Prim.Native.Nat.{ℕ, _+_, _*_, _≤_}
 use native.Mathlib.Omega.{arith}
-use mathlib.Core.Path.{_≡_, refl, sym, _∙_, ap, subst}
+use mathlib.Core.Path.{_≡_, refl, sym, _∙_, ap}
 use mathlib.Core.Bool.{Bool, true, false, cond}
-use mathlib.Core.List.{List, [], _∷_, _++_, map}
+use mathlib.Core.List.{List, [], _∷_, map}
 use lib.Dec.{eqb, leb, ltb}
 use lib.ListN.{length, length-append, length-map}
 use borrow.Author.Tests.{eqb-true, leb-true}
@@ -19,9 +19,10 @@ use Rattle.layout.proofs.RefusalLaws.{zero-holds, both-accept, first-most}
 use Rattle.layout.proofs.Checking.{steps-bytes}
 use Rattle.layout.proofs.Packing.{read-fits, passing-pairs-few}
 use Rattle.split.specs.Lines.{linesOf}
-use Rattle.sheet.specs.Sheet.{mostLines, sheetRefusals, sheetNumber, linesToRead, ownPlanRoom, readNumber, Course, course, sheetCourse}
+use Rattle.sheet.specs.Sheet.{mostLines, sheetRefusals, sheetNumber, linesToRead, ownPlanRoom, readNumber, Course, sheetCourse}
 use Rattle.sheet.specs.Sheet.{SheetRecord, sheetRecord, recordsFrom, SheetAnswer, refusedAt, recordsWithin, endAnswer, sheetAnswer}
 use Rattle.sheet.specs.Promise.{LineRead, EachRead, none, more, Sheet}
+use Rattle.sheet.proofs.AnswerLaws.{output-short}
 use Rattle.sheet.proofs.CourseLaws.{Went, to-end, up-to, went}
 
 pairs-few : {card line : List ℕ} {plan : List PlanStep} → LineRead card line plan → length (pairsOf (grammarOf card) plan) ≤ 11
@@ -92,7 +93,27 @@ answer-fits card sheet chartRoom room plans = by-test (eqb (sheetNumber card she
         (λ line. read-fits card line chartRoom ownPlanRoom .number)
     by-test false = refused-fits _ _ (sheetNumber card sheet) (first-most (sheetRefusals card sheet))
 
--- Of the promise.
+-- Of the promise. The records of all lines are at most 704.
+all-few : {card sheet oldChart oldOutput newChart newOutput : List ℕ} {number line count : ℕ}
+    → (p : Sheet card sheet oldChart oldOutput newChart newOutput number line count) → length (recordsFrom card 0 (p .plans)) ≤ 704
+all-few {card} {sheet} {oldChart} p =
+    omega (
+      arith,
+      records-few (p .each) 0,
+      course-few (went (readNumber card (length oldChart)) (linesToRead card sheet)),
+      few-lines card sheet,
+    )
+
+-- So an output room of 2,112 bytes is enough for every sheet.
+pub output-enough : {card sheet oldChart oldOutput newChart newOutput : List ℕ} {number line count : ℕ}
+    → Sheet card sheet oldChart oldOutput newChart newOutput number line count → 2112 ≤ length oldOutput → number ≡ 33 → ⊥
+output-enough {card} {sheet} {oldChart} {oldOutput} p h e =
+    omega (
+      arith,
+      all-few p,
+      output-short card sheet (length oldChart) (length oldOutput) (p .plans) (sym (p .number-is) ∙ e),
+    )
+
 pub sheet-fits : {card sheet oldChart oldOutput newChart newOutput : List ℕ} {number line count : ℕ}
     → Sheet card sheet oldChart oldOutput newChart newOutput number line count → (number ≤ 41) × (line ≤ 64) × (count ≤ 704)
 sheet-fits {card} {sheet} {oldChart} {oldOutput} p =

@@ -1,21 +1,22 @@
--- A sheet of one line without hex 0A is that line: it has the number that Read gives with plan room enough, leaves the chart room as Read
--- does, and its records are the pairs that Pairs gives for a plan that passes Check.
+-- The smallest sheets. One of no bytes is accepted and touches nothing. One of one line without hex 0A is that line: it has the number that
+-- Read gives with plan room enough, leaves the chart room as Read does, and its records are the pairs that Pairs gives for a plan that passes
+-- Check.
 use Prim.Native.Nat.{ℕ, _*_, _≤_, _<_}
 use native.Mathlib.Omega.{arith}
 use native.Mathlib.Decide.{ℕ-discrete}
 use mathlib.Core.Path.{_≡_, refl, sym, _∙_, ap, subst}
 use mathlib.Core.Bool.{Bool, true, false, cond}
-use mathlib.Core.List.{List, [], _∷_, _++_, map, append-nil, List·Memᴰ, List·Memᴰ·head, List·Memᴰ·tail}
+use mathlib.Core.List.{List, [], _∷_, map, append-nil, List·Memᴰ, List·Memᴰ·head, List·Memᴰ·tail}
 use mathlib.Core.Option.{none, some}
-use lib.Dec.{eqb, leb, ltb}
-use lib.ListN.{length, drop}
+use lib.Dec.{eqb, ltb}
+use lib.ListN.{length}
 use borrow.Author.Tests.{eqb-true, eq-eqb, ne-eqb, le-leb, le-ltb}
 use Rattle.grammar.specs.ItemList.{item, among}
 use Rattle.grammar.specs.Items.{bare}
 use Rattle.grammar.specs.Plan.{PlanStep}
-use Rattle.grammar.specs.Pairs.{Pair, pairsOf}
+use Rattle.grammar.specs.Pairs.{pairsOf}
 use Rattle.layout.specs.Card.{grammarOf, cardNumber}
-use Rattle.layout.specs.Steps.{planBytes, planRoom, stepsOf}
+use Rattle.layout.specs.Steps.{planBytes, planRoom}
 use Rattle.layout.specs.Answers.{inputNumber, wordsIn, derivable, refusal, found, outnumber, ReadAnswer, readAnswer, checkNumber}
 use Rattle.layout.specs.Answers.{ChartState, chartState, ChartAfter, PairsAnswer, planPairs, pairsAnswer}
 use Rattle.layout.proofs.Accepting.{accepted-line, input-of-card, input-small}
@@ -25,7 +26,7 @@ use Rattle.reader.proofs.Answers.{answer-refused, no-chart}
 use Rattle.split.specs.Lines.{newline, inFront, linesOf}
 use Rattle.sheet.specs.Sheet.{mostLines, sheetNumber, ownPlanRoom, readNumber, Course, course, sheetCourse, tried, ChartsAfter}
 use Rattle.sheet.specs.Sheet.{SheetRecord, sheetRecord, recordsFrom, SheetAnswer, refusedAt, recordsWithin, endAnswer, sheetAnswer, outputAfter}
-use Rattle.sheet.specs.Promise.{LineRead, EachRead, more, Sheet}
+use Rattle.sheet.specs.Promise.{EachRead, more, Sheet}
 use Rattle.sheet.specs.Promise as promise
 use Rattle.sheet.proofs.CourseLaws.{each-length}
 use Rattle.sheet.proofs.AnswerLaws.{refused-answer, lines-course, lines-answer}
@@ -203,3 +204,29 @@ module _ {card line oldChart oldOutput newChart newOutput : List ℕ} {number at
         | yes accepted ↦ elim (ℕ-discrete own 0) [ yes z ↦ by-an-order accepted z | no ne ↦ by-a-line accepted ne ]
         | no ne ↦ by-a-card ne
       ]
+
+-- A sheet of no bytes under an accepted card is accepted, with no records, and no room is touched.
+pub no-bytes : {card oldChart oldOutput newChart newOutput : List ℕ} {number at count : ℕ}
+    → Sheet card [] oldChart oldOutput newChart newOutput number at count → cardNumber card ≡ 0
+    → (number ≡ 0) × (at ≡ 0) × (count ≡ 0) × (newChart ≡ oldChart) × (newOutput ≡ oldOutput)
+no-bytes {card} {oldChart} {oldOutput} {newChart} s accepted =
+    let m = length oldChart in
+    let k = length oldOutput in
+    let z = by-none card [] accepted refl in
+    let is = lines-course card [] m k (s .plans) z in
+    let none-read = subst (λ (c : Course). EachRead card (c .read) (s .plans)) is (s .each) in
+    let plans-are : s .plans ≡ [] = no-plans (s .plans) (omega (arith, each-length none-read)) in
+    let e : sheetAnswer card [] m k (s .plans) ≡ record { number = 0; line = 0; records = [] } =
+    lines-answer card [] m k (s .plans) z
+    ∙ ap (λ (plans : List (List PlanStep)). recordsWithin (recordsFrom card 0 plans) k) plans-are
+    ∙ rw (le-ltb k 0 (omega arith)) refl in (
+      s .number-is ∙ ap (λ (a : SheetAnswer). a .number) e,
+      s .line-is ∙ ap (λ (a : SheetAnswer). a .line) e,
+      s .count-is ∙ ap (λ (a : SheetAnswer). length (a .records)) e,
+      subst (λ (c : Course). ChartsAfter card (readNumber card m) (tried c) oldChart newChart) is (s .chart),
+      s .output ∙ ap (λ (a : SheetAnswer). outputAfter (a .records) oldOutput) e,
+    )
+  where
+    no-plans : (plans : List (List PlanStep)) → length plans ≡ 0 → plans ≡ []
+    no-plans [] h = refl
+    no-plans (plan ∷ plans) h = absurd (omega arith)

@@ -5,11 +5,11 @@ use native.Mathlib.Omega.{arith}
 use mathlib.Core.Path.{_≡_, refl, sym, _∙_, ap, subst}
 use mathlib.Core.Bool.{true, false}
 use mathlib.Core.List.{List, [], _∷_}
-use mathlib.Core.Option.{Option, none, some}
+use mathlib.Core.Option.{Option, none}
 use lib.Dec.{leb}
 use lib.ListN.{length, take}
 use lib.Seq.{length-take-le}
-use borrow.Author.Tests.{leb-true, ne-eqb}
+use borrow.Author.Tests.{ne-eqb}
 use Rattle.grammar.specs.Plan.{PlanStep}
 use Rattle.layout.specs.Refusals.{unless}
 use Rattle.layout.specs.Card.{cardNumber, cardRefusals}
@@ -17,10 +17,10 @@ use Rattle.layout.specs.Answers.{HasDerivation}
 use Rattle.layout.proofs.RefusalLaws.{before-refuses, before-accepts}
 use Rattle.split.specs.Lines.{linesOf}
 use Rattle.sheet.specs.Sheet.{mostLines, sheetNumber, readNumber, Course, course, sheetCourse, tried, ChartsAfter, outputAfter}
-use Rattle.sheet.specs.Sheet.{SheetRecord, recordsFrom, SheetAnswer, refusedAt, recordsWithin, endAnswer, sheetAnswer}
+use Rattle.sheet.specs.Sheet.{recordsFrom, SheetAnswer, refusedAt, recordsWithin, endAnswer, sheetAnswer}
 use Rattle.sheet.specs.Promise.{EachRead, lineAt, Sheet}
 use Rattle.sheet.specs.Promise as promise
-use Rattle.sheet.specs.Reading.{recordRoom, EndsAs, Ends, HandsOut}
+use Rattle.sheet.specs.Reading.{recordRoom, Ends, HandsOut}
 use Rattle.sheet.specs.declared.Answer.{Answer}
 use Rattle.sheet.specs.declared.Ending.{Ending}
 use Rattle.sheet.specs.declared.Ending.the-variants.{Read, Failed}

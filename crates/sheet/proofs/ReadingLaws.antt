@@ -3,21 +3,20 @@ use Prim.Native.Nat.{ℕ, _+_, _*_, _-_, _≤_, _<_}
 use native.Mathlib.Omega.{arith}
 use mathlib.Core.Path.{_≡_, refl, sym, _∙_, ap, subst}
 use mathlib.Core.List.{List, [], _∷_, _++_, map, append-assoc, append-nil}
-use mathlib.Core.Option.{Option, none, some}
+use mathlib.Core.Option.{none, some}
 use lib.ListN.{length, take, drop, length-append, length-map, drop-of-length-le}
 use Rattle.grammar.specs.Plan.{PlanStep}
 use Rattle.grammar.specs.Pairs.{pairsOf}
 use Rattle.layout.specs.Card.{grammarOf}
 use Rattle.layout.proofs.Writing.{wrote-front, wrote-length}
 use Rattle.split.specs.Lines.{linesOf, LineEnds}
-use Rattle.sheet.specs.Sheet.{readNumber, Course, course, tried, ChartsAfter, SheetRecord, sheetRecord, recordsFrom, sheetBytes, mostLines}
+use Rattle.sheet.specs.Sheet.{readNumber, Course, course, tried, ChartsAfter, sheetRecord, recordsFrom, sheetBytes, mostLines}
 use Rattle.sheet.specs.Promise.{EachRead}
 use Rattle.sheet.specs.Promise as promise
-use Rattle.sheet.specs.Reading.{recordRoom, RoomForLine, Adds, AddsRead, EndsAs, Ends}
+use Rattle.sheet.specs.Reading.{recordRoom, RoomForLine, Adds, EndsAs, Ends}
 use Rattle.sheet.specs.declared.Added.{Added}
-use Rattle.sheet.specs.declared.Ending.{Ending}
 use Rattle.sheet.specs.declared.Ending.the-variants.{Read, Failed}
-use Rattle.sheet.proofs.RecordLaws.{sheet-bytes-length, sheet-bytes-join, records-one-more}
+use Rattle.sheet.proofs.RecordLaws.{sheet-bytes-join, records-one-more}
 use Rattle.sheet.proofs.CourseLaws.{AllRead, no-line, all-one-more, course-all, course-fails, each-one-more, each-length, charts-one-more}
 
 -- The lines up to `next`, as many as `place` says, are read: so many records.

@@ -3,7 +3,7 @@ use Prim.Native.Nat.{ℕ, _+_, _*_, _≤_}
 use native.Mathlib.Omega.{arith}
 use mathlib.Core.Path.{_≡_, refl, sym, _∙_, ap}
 use mathlib.Core.List.{List, [], _∷_, _++_, map, append-assoc, append-nil}
-use lib.ListN.{length, take, drop, length-map, length-append}
+use lib.ListN.{length, take, drop, length-map}
 use lib.Seq.{take-at}
 use borrow.Author.Tests.{le-ltb}
 use Rattle.grammar.specs.Plan.{PlanStep}
@@ -11,7 +11,7 @@ use Rattle.grammar.specs.Pairs.{Pair, pair, placeIn, pairsOf}
 use Rattle.grammar.proofs.ListLaws.{length-concatMap}
 use Rattle.layout.specs.Card.{grammarOf}
 use Rattle.layout.specs.Steps.{stepsOf, pairsBytes}
-use Rattle.layout.specs.Answers.{checkNumber, PairsAnswer, planPairs, pairsWithin}
+use Rattle.layout.specs.Answers.{PairsAnswer, planPairs, pairsWithin}
 use Rattle.layout.specs.Written.{Wrote}
 use Rattle.layout.proofs.Lengths.{pair-length, pairs-bytes-length}
 use Rattle.layout.proofs.Packing.{passing-pairs-few}

@@ -6,7 +6,7 @@ use lib.ListN.{length, getD}
 use Rattle.grammar.specs.Plan.{PlanStep}
 use Rattle.layout.specs.Answers.{inputNumber, RoomEnough, HasDerivation, PlanFor}
 use Rattle.split.specs.Lines.{linesOf}
-use Rattle.sheet.specs.Sheet.{sheetNumber, ownPlanRoom, readNumber, Course, sheetCourse, tried, ChartsAfter}
+use Rattle.sheet.specs.Sheet.{sheetNumber, ownPlanRoom, readNumber, sheetCourse, tried, ChartsAfter}
 use Rattle.sheet.specs.Sheet.{recordsFrom, sheetAnswer, outputAfter}
 
 -- All that holds of a line that is read, with its plan.

@@ -1,4 +1,5 @@
--- The lines of an input (document 01, "The tomato card"): each ended by hex 0A, the last one with or without it. No bytes mean no lines.
+-- The lines of an input (document 01, "The tomato card") and of a sheet (document 02, Paper 1): each ended by hex 0A, the last one with or
+-- without it. No bytes mean no lines.
 use Prim.Native.Nat.{ℕ, _+_, _-_, _≤_}
 use mathlib.Core.Path.{_≡_}
 use mathlib.Core.Bool.{cond}

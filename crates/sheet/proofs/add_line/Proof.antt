@@ -1,7 +1,7 @@
 -- `add_line` meets its contract: a refusal is Read's own; a reading has its plan in the room, which passes Check, and its records are added.
 use Prim.Native.Nat.{_*_}
 use native.Mathlib.Omega.{arith}
-use mathlib.Core.Path.{refl, sym}
+use mathlib.Core.Path.{refl}
 use lib.ListN.{length-take}
 use borrow.Author.Needs.{needs}
 use Rattle.reader.proofs.PlanRead.{taken-length, taken-passes}
