@@ -15,8 +15,8 @@ ghost use Rattle.sheet.specs.Reading.{RoomForLine, Adds, recordRoom, End
 // How many lines a sheet may have.
 const MOST_LINES: usize = 64;
 
-// Room for the plan of any line.
-const PLAN_ROOM: usize = 188;
+// Room for the plan of any line: four bytes for each of 2n - 1 steps, and n is at most 24.
+const PLAN_ROOM: usize = 4 * 47;
 
 // A number (0 is accepted), the line that it is about, and how many records were written.
 pub struct Answer {

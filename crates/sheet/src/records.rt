@@ -6,11 +6,13 @@ ghost use Rattle.layout.specs.Written.{Wrote};
 ghost use Rattle.check_pairs.specs.Matching.{Checked};
 ghost use Rattle.sheet.specs.Reading.{placed, AddsRecords, RoomForLine};
 
-// A line has at most 11 pairs.
-const PAIR_ROOM: usize = 22;
+// So many pairs a line has at most; it is a theorem that none has more.
+const MOST_PAIRS: usize = 11;
+
+const PAIR_ROOM: usize = 2 * MOST_PAIRS;
 
 // Room for the records of 64 lines.
-pub const RECORD_ROOM: usize = 2112;
+pub const RECORD_ROOM: usize = 64 * 3 * MOST_PAIRS;
 
 // A record for each two bytes of pairs, from a place of the room on: where they end.
 fn put_records(place: u8, pairs: &[u8], records: &mut [u8], at: usize) -> usize
