@@ -10,7 +10,7 @@ use mathlib.Core.Option.{some}
 use lib.Dec.{eqb, ltb}
 use lib.ListN.{length, getD}
 use lib.Seq.{getD-append-seam}
-use borrow.Author.Tests.{eqb-true, eqb-false, eq-eqb, ne-eqb, ltb-true, le-ltb}
+use borrow.Author.Tests.{eqb-true, eqb-false, eq-eqb, ne-eqb, le-ltb}
 use Rattle.grammar.specs.Plan.{PlanStep}
 use Rattle.grammar.specs.ItemList.{item, among}
 use Rattle.grammar.specs.Items.{bare}
@@ -21,8 +21,9 @@ use Rattle.layout.proofs.Accepting.{accepted-line, input-small}
 use Rattle.layout.proofs.Reading.{no-reading, derivation-read}
 use Rattle.split.specs.Lines.{linesOf}
 use Rattle.sheet.specs.Sheet.{sheetRefusals, sheetNumber, ownPlanRoom, readNumber, Course, course, sheetCourse}
-use Rattle.sheet.specs.Sheet.{SheetRecord, SheetAnswer, refusedAt, recordsWithin, recordsFrom, endAnswer, sheetAnswer}
+use Rattle.sheet.specs.Sheet.{SheetRecord, SheetAnswer, refusedAt, recordsFrom, endAnswer, sheetAnswer}
 use Rattle.sheet.specs.Promise.{Order, lineAt}
+use Rattle.sheet.proofs.Within.{Within, short, fits, within}
 use Rattle.sheet.proofs.CourseLaws.{AllRead, no-line, one-line, course-all, Went, to-end, up-to, went}
 
 -- A line's number is none above 25 but 31. So it is never 32: the reader's own plan room is enough for 24 words.
@@ -47,14 +48,13 @@ pub never-short : (card : List ℕ) (chartRoom : ℕ) (line : List ℕ) → read
 never-short card chartRoom line = never-other card chartRoom line 32 (omega arith) (omega arith)
 
 -- The records' own numbers.
-within-number : (records : List SheetRecord) (room : ℕ) → (recordsWithin records room .number ≡ 0) ⊎ (recordsWithin records room .number ≡ 33)
-within-number records room = by-test (ltb room (3 * length records))
-  where
-    by-test : (b : Bool)
-        → (cond b (refusedAt 33 0) (record { number = 0; line = 0; records = records }) .number ≡ 0)
-        ⊎ (cond b (refusedAt 33 0) (record { number = 0; line = 0; records = records }) .number ≡ 33)
-    by-test true = inr refl
-    by-test false = inl refl
+own-number : {records : List SheetRecord} {room : ℕ} {a : SheetAnswer} → Within records room a → (a .number ≡ 0) ⊎ (a .number ≡ 33)
+own-number (short h) = inr refl
+own-number (fits h) = inl refl
+
+own-short : {records : List SheetRecord} {room : ℕ} {a : SheetAnswer} → Within records room a → a .number ≡ 33 → room < 3 * length records
+own-short (short h) e = h
+own-short (fits h) e = absurd (omega arith)
 
 -- Of any numbers of lines.
 module _ (number : List ℕ → ℕ) (records : List SheetRecord) (room : ℕ) where
@@ -69,18 +69,13 @@ module _ (number : List ℕ → ℕ) (records : List SheetRecord) (room : ℕ) w
   other-line : {lines : List (List ℕ)} {c : Course} (x : ℕ) → Went number lines c → (x ≡ 0 → ⊥) → (x ≡ 33 → ⊥) → ended c .number ≡ x
       → number (getD lines (ended c .line) []) ≡ x
   other-line x (to-end a) n0 n33 e =
-      absurd (elim (within-number records room) [ inl z ↦ n0 (sym e ∙ z) | inr z ↦ n33 (sym e ∙ z) ])
+      absurd (elim (own-number (within records room)) [ inl z ↦ n0 (sym e ∙ z) | inr z ↦ n33 (sym e ∙ z) ])
   other-line x (up-to read line others a ne) n0 n33 e = ap number (getD-append-seam read line others []) ∙ e
 
   -- 33 is the records' own, and says that the room is too short for them.
   short-records : {lines : List (List ℕ)} {c : Course} → Went number lines c → ((line : List ℕ) → number line ≡ 33 → ⊥)
       → ended c .number ≡ 33 → room < 3 * length records
-  short-records (to-end a) never e = by-test (ltb room (3 * length records)) refl e
-    where
-      by-test : (b : Bool) → ltb room (3 * length records) ≡ b
-          → cond b (refusedAt 33 0) (record { number = 0; line = 0; records = records }) .number ≡ 33 → room < 3 * length records
-      by-test true t e = ltb-true room (3 * length records) t
-      by-test false t e = absurd (omega arith)
+  short-records (to-end a) never e = own-short (within records room) e
   short-records (up-to read line others a ne) never e = absurd (never line e)
 
 module _ (card sheet : List ℕ) (chartRoom room : ℕ) (plans : List (List PlanStep)) where
@@ -149,10 +144,10 @@ module _ (card sheet : List ℕ) (chartRoom room : ℕ) (plans : List (List Plan
 
   pub orders-accepted : sheetNumber card sheet ≡ 0 → ((k : List ℕ) → List·Memᴰ k (linesOf sheet) → Order card chartRoom k)
       → 3 * length records ≤ room → sheetAnswer card sheet chartRoom room plans .number ≡ 0
-  orders-accepted z h fits =
+  orders-accepted z h roomy =
       ap (λ (a : SheetAnswer). a .number)
       (lines-answer z ∙ ap (ended number records room) (course-all (orders-read (linesOf sheet) h)))
-      ∙ rw (le-ltb room (3 * length records) fits) refl
+      ∙ rw (le-ltb room (3 * length records) roomy) refl
 
   pub output-short : sheetAnswer card sheet chartRoom room plans .number ≡ 33 → room < 3 * length records
   output-short e =

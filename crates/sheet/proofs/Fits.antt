@@ -5,7 +5,7 @@ use native.Mathlib.Omega.{arith}
 use mathlib.Core.Path.{_≡_, refl, sym, _∙_, ap}
 use mathlib.Core.Bool.{Bool, true, false, cond}
 use mathlib.Core.List.{List, [], _∷_, map}
-use lib.Dec.{eqb, leb, ltb}
+use lib.Dec.{eqb, leb}
 use lib.ListN.{length, length-append, length-map}
 use borrow.Author.Tests.{eqb-true, leb-true}
 use Rattle.grammar.specs.Lists.{here}
@@ -20,8 +20,9 @@ use Rattle.layout.proofs.Checking.{steps-bytes}
 use Rattle.layout.proofs.Packing.{read-fits, passing-pairs-few}
 use Rattle.split.specs.Lines.{linesOf}
 use Rattle.sheet.specs.Sheet.{mostLines, sheetRefusals, sheetNumber, linesToRead, ownPlanRoom, readNumber, Course, sheetCourse}
-use Rattle.sheet.specs.Sheet.{SheetRecord, sheetRecord, recordsFrom, SheetAnswer, refusedAt, recordsWithin, endAnswer, sheetAnswer}
+use Rattle.sheet.specs.Sheet.{SheetRecord, sheetRecord, recordsFrom, SheetAnswer, refusedAt, endAnswer, sheetAnswer}
 use Rattle.sheet.specs.Promise.{LineRead, EachRead, none, more, Sheet}
+use Rattle.sheet.proofs.Within.{Within, short, fits, within}
 use Rattle.sheet.proofs.AnswerLaws.{output-short}
 use Rattle.sheet.proofs.CourseLaws.{Went, to-end, up-to, went}
 
@@ -66,17 +67,14 @@ pub record SheetFits (n m : ℕ) (a : SheetAnswer) : Type 0 where
 refused-fits : (n m x : ℕ) → x ≤ 41 → SheetFits n m (refusedAt x 0)
 refused-fits n m x h = record { number = h; line = omega arith; records = omega arith }
 
-within-fits : (n room : ℕ) (records : List SheetRecord) → SheetFits n (length records) (recordsWithin records room)
-within-fits n room records = by-test (ltb room (3 * length records))
-  where
-    by-test : (b : Bool) → SheetFits n (length records) (cond b (refusedAt 33 0) (record { number = 0; line = 0; records = records }))
-    by-test true = refused-fits n (length records) 33 (omega arith)
-    by-test false = record { number = omega arith; line = omega arith; records = omega arith }
+within-fits : {records : List SheetRecord} {room : ℕ} {a : SheetAnswer} (n : ℕ) → Within records room a → SheetFits n (length records) a
+within-fits {records} n (short h) = refused-fits n (length records) 33 (omega arith)
+within-fits n (fits h) = record { number = omega arith; line = omega arith; records = omega arith }
 
 ended-fits : {number : List ℕ → ℕ} {lines : List (List ℕ)} {c : Course} (records : List SheetRecord) (room : ℕ) → Went number lines c
     → ((line : List ℕ) → number line ≤ 35)
     → SheetFits (length lines) (length records) (endAnswer number (length (c .read)) (c .failing) records room)
-ended-fits {lines = lines} records room (to-end a) h = within-fits (length lines) room records
+ended-fits {lines = lines} records room (to-end a) h = within-fits (length lines) (within records room)
 ended-fits records room (up-to read line others a ne) h =
     let few = h line in record { number = omega arith; line = omega (arith, length-append read (line ∷ others)); records = omega arith }
 
@@ -118,10 +116,10 @@ pub sheet-fits : {card sheet oldChart oldOutput newChart newOutput : List ℕ} {
     → Sheet card sheet oldChart oldOutput newChart newOutput number line count → (number ≤ 41) × (line ≤ 64) × (count ≤ 704)
 sheet-fits {card} {sheet} {oldChart} {oldOutput} p =
     let m = length oldChart in
-    let fits = answer-fits card sheet m (length oldOutput) (p .plans) in
+    let small = answer-fits card sheet m (length oldOutput) (p .plans) in
     let few = few-lines card sheet in
     let read = course-few (went (readNumber card m) (linesToRead card sheet)) in (
-      omega (arith, p .number-is, fits .number),
-      omega (arith, p .line-is, fits .line, few),
-      omega (arith, p .count-is, fits .records, records-few (p .each) 0, read, few),
+      omega (arith, p .number-is, small .number),
+      omega (arith, p .line-is, small .line, few),
+      omega (arith, p .count-is, small .records, records-few (p .each) 0, read, few),
     )

@@ -1,3 +1,4 @@
+pub mod Within
 pub mod Placing
 pub mod RecordLaws
 pub mod CourseLaws

@@ -1,7 +1,7 @@
 -- The smallest sheets. One of no bytes is accepted and touches nothing. One of one line without hex 0A is that line: it has the number that
 -- Read gives with plan room enough, leaves the chart room as Read does, and its records are the pairs that Pairs gives for a plan that passes
 -- Check.
-use Prim.Native.Nat.{ℕ, _*_, _≤_, _<_}
+use Prim.Native.Nat.{ℕ, _≤_, _<_}
 use native.Mathlib.Omega.{arith}
 use native.Mathlib.Decide.{ℕ-discrete}
 use mathlib.Core.Path.{_≡_, refl, sym, _∙_, ap, subst}
@@ -28,6 +28,7 @@ use Rattle.sheet.specs.Sheet.{mostLines, sheetNumber, ownPlanRoom, readN
 use Rattle.sheet.specs.Sheet.{SheetRecord, sheetRecord, recordsFrom, SheetAnswer, refusedAt, recordsWithin, endAnswer, sheetAnswer, outputAfter}
 use Rattle.sheet.specs.Promise.{EachRead, more, Sheet}
 use Rattle.sheet.specs.Promise as promise
+use Rattle.sheet.proofs.Within.{Within, short, fits, within}
 use Rattle.sheet.proofs.CourseLaws.{each-length}
 use Rattle.sheet.proofs.AnswerLaws.{refused-answer, lines-course, lines-answer}
 use Rattle.sheet.proofs.Outcome.{by-card, by-none}
@@ -59,12 +60,9 @@ more-room card line chartRoom room h =
     (le-ltb room (planRoom n) (omega arith), le-ltb ownPlanRoom (planRoom n) (omega arith)))
 
 -- The line that is given with records is 0.
-within-line : (records : List SheetRecord) (room : ℕ) → recordsWithin records room .line ≡ 0
-within-line records room = by-test (ltb room (3 * length records))
-  where
-    by-test : (b : Bool) → cond b (refusedAt 33 0) (record { number = 0; line = 0; records = records }) .line ≡ 0
-    by-test true = refl
-    by-test false = refl
+line-zero : {records : List SheetRecord} {room : ℕ} {a : SheetAnswer} → Within records room a → a .line ≡ 0
+line-zero (short h) = refl
+line-zero (fits h) = refl
 
 -- What Read and Pairs say of the line, with so much plan room and pair room.
 pub record AsLine (card line oldChart oldOutput newChart newOutput : List ℕ) (planRoom′ pairRoom number at count : ℕ) : Type 0 where
@@ -187,7 +185,7 @@ module _ {card line oldChart oldOutput newChart newOutput : List ℕ} {number at
         answer-is e ∙ ap (λ (records : List SheetRecord). recordsWithin records k) records-are in
         record {
           chart = chart-there e refl;
-          place = at-in a answered ∙ within-line (map (sheetRecord 0) pairs) k;
+          place = at-in a answered ∙ line-zero (within (map (sheetRecord 0) pairs) k);
           refused = λ ne. absurd (ne z);
           read = λ _. (plan, passes, (number-in a answered, count-in a answered, output-in a answered));
         }
