@@ -12,7 +12,7 @@
 #include <stdio.h>
 
 #include "lig.h"
-#include "refusals.h"
+#include "shared.h"
 
 enum {
     CHART_ITEMS = 4000, /* chosen for the nursery's cards; a line that wants more is refused, 31 */
@@ -34,19 +34,6 @@ static size_t sheet_length;
 
 static uint8_t chart[CHART_ITEMS * LIG_RECORD_BYTES];
 static uint8_t records[LIG_MOST_SHEET_OUTPUT];
-
-/* 0 where the file, or as much of it as there is room for, is in card. */
-static int load_card(const char *name)
-{
-    FILE *file = fopen(name, "rb");
-    if (file == NULL)
-        return -1;
-    card_length = fread(card, 1, sizeof card, file);
-    int failed = ferror(file);
-    if (fclose(file) != 0 || failed)
-        return -1;
-    return 0;
-}
 
 /* 0 where standard input, or as much of it as there is room for, is in sheet. */
 static int load_sheet(void)
@@ -152,7 +139,7 @@ static int obey_sheet(void)
 
 int main(int argc, char **argv)
 {
-    if (argc != 2 || load_card(argv[1]) != 0) {
+    if (argc != 2 || load_card(argv[1], card, sizeof card, &card_length) != 0) {
         fprintf(stderr, "controller: wants the name of a card that can be read\n");
         return 2;
     }

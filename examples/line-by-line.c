@@ -11,7 +11,7 @@
 #include <stdio.h>
 
 #include "lig.h"
-#include "refusals.h"
+#include "shared.h"
 
 enum {
     LINE_ROOM = 512,     /* 24 words of 11 letters with a space between them take 287 bytes */
@@ -37,19 +37,6 @@ static size_t plan_length;
 static uint8_t pairs[LIG_MOST_PAIR_BYTES];
 static size_t pairs_length;
 static uint64_t names[LIG_MOST_PAIR_BYTES]; /* lig_name's answer for each place in pairs */
-
-/* 0 where the file, or as much of it as there is room for, is in card. */
-static int load_card(const char *name)
-{
-    FILE *file = fopen(name, "rb");
-    if (file == NULL)
-        return -1;
-    card_length = fread(card, 1, sizeof card, file);
-    int failed = ferror(file);
-    if (fclose(file) != 0 || failed)
-        return -1;
-    return 0;
-}
 
 /*
  * The next line of standard input, without its end. A line that outgrows its room is passed over
@@ -183,7 +170,7 @@ static int obey_lines(void)
 
 int main(int argc, char **argv)
 {
-    if (argc != 2 || load_card(argv[1]) != 0) {
+    if (argc != 2 || load_card(argv[1], card, sizeof card, &card_length) != 0) {
         fprintf(stderr, "line-by-line: wants the name of a card that can be read\n");
         return 2;
     }

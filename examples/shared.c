@@ -1,8 +1,20 @@
-#include "refusals.h"
+#include "shared.h"
 
 #include <stdio.h>
 
 #include "lig.h"
+
+int load_card(const char *name, uint8_t *room, size_t room_length, size_t *length)
+{
+    FILE *file = fopen(name, "rb");
+    if (file == NULL)
+        return -1;
+    *length = fread(room, 1, room_length, file);
+    int failed = ferror(file);
+    if (fclose(file) != 0 || failed)
+        return -1;
+    return 0;
+}
 
 const char *refusal_mender(unsigned number)
 {

@@ -1,6 +1,12 @@
-/* The refusals of lig.h in words, for the display of a controller. */
-#ifndef REFUSALS_H
-#define REFUSALS_H
+/* What the programs share: a card's file, and the refusals of lig.h in words for a display. */
+#ifndef SHARED_H
+#define SHARED_H
+
+#include <stddef.h>
+#include <stdint.h>
+
+/* 0 where the file, or as much of it as there is room for, is in the room, with its length. */
+int load_card(const char *name, uint8_t *room, size_t room_length, size_t *length);
 
 /* Who can mend it. */
 const char *refusal_mender(unsigned number);
