@@ -5,7 +5,7 @@ use native.Mathlib.Omega.{arith}
 use mathlib.Core.Path.{_≡_, refl, sym, _∙_, ap}
 use mathlib.Core.Logic.{_⊎_, inl, inr}
 use mathlib.Core.Bool.{Bool, true, false, cond, false≢true}
-use mathlib.Core.List.{List, [], _∷_, List·Memᴰ, List·Memᴰ·head, List·Memᴰ·tail}
+use mathlib.Core.List.{List, [], _∷_, _++_, List·Memᴰ, List·Memᴰ·head, List·Memᴰ·tail}
 use mathlib.Core.Option.{some}
 use lib.Dec.{eqb, ltb}
 use lib.ListN.{length, getD}
@@ -21,10 +21,10 @@ use Rattle.layout.proofs.Accepting.{accepted-line, input-small}
 use Rattle.layout.proofs.Reading.{no-reading, derivation-read}
 use Rattle.split.specs.Lines.{linesOf}
 use Rattle.sheet.specs.Sheet.{sheetRefusals, sheetNumber, ownPlanRoom, readNumber, Course, course, sheetCourse}
-use Rattle.sheet.specs.Sheet.{SheetRecord, SheetAnswer, refusedAt, recordsFrom, endAnswer, sheetAnswer}
+use Rattle.sheet.specs.Sheet.{SheetRecord, SheetAnswer, refusedAt, recordsFrom, courseAnswer, sheetAnswer}
 use Rattle.sheet.specs.Promise.{Order, lineAt}
 use Rattle.sheet.proofs.Within.{Within, short, fits, within}
-use Rattle.sheet.proofs.CourseLaws.{AllRead, no-line, one-line, course-all, Went, to-end, up-to, went}
+use Rattle.sheet.proofs.CourseLaws.{AllRead, no-line, one-line, course-all, line-fails, Went, to-end, up-to, went}
 
 -- A line's number is none above 25 but 31. So it is never 32: the reader's own plan room is enough for 24 words.
 no-other : (b s o f : Bool) (x n count v : ℕ) → x ≤ 24 → (b ≡ true → s ≡ false) → 25 < v → (v ≡ 31 → ⊥)
@@ -59,24 +59,29 @@ own-short (fits h) e = absurd (omega arith)
 -- Of any numbers of lines.
 module _ (number : List ℕ → ℕ) (records : List SheetRecord) (room : ℕ) where
   abbrev ended : Course → SheetAnswer
-  ended c = endAnswer number (length (c .read)) (c .failing) records room
+  ended c = courseAnswer number c records room
+
+  own-number-is : (read : List (List ℕ)) (line : List ℕ) → number line ≡ ended (record { read = read; failing = some line }) .number
+  own-number-is read line = sym (ap (λ (a : SheetAnswer). a .number) (line-fails number read line records room))
 
   zero-all : {lines : List (List ℕ)} {c : Course} → Went number lines c → ended c .number ≡ 0 → c .read ≡ lines
   zero-all (to-end a) e = refl
-  zero-all (up-to read line others a ne) e = absurd (ne e)
+  zero-all (up-to read line others a ne) e = absurd (ne (own-number-is read line ∙ e))
 
   -- A number that no records give is that of the line whose place is given.
   other-line : {lines : List (List ℕ)} {c : Course} (x : ℕ) → Went number lines c → (x ≡ 0 → ⊥) → (x ≡ 33 → ⊥) → ended c .number ≡ x
       → number (getD lines (ended c .line) []) ≡ x
   other-line x (to-end a) n0 n33 e =
       absurd (elim (own-number (within records room)) [ inl z ↦ n0 (sym e ∙ z) | inr z ↦ n33 (sym e ∙ z) ])
-  other-line x (up-to read line others a ne) n0 n33 e = ap number (getD-append-seam read line others []) ∙ e
+  other-line x (up-to read line others a ne) n0 n33 e =
+      ap (λ (a : SheetAnswer). number (getD (read ++ (line ∷ others)) (a .line) [])) (line-fails number read line records room)
+      ∙ ap number (getD-append-seam read line others []) ∙ own-number-is read line ∙ e
 
   -- 33 is the records' own, and says that the room is too short for them.
   short-records : {lines : List (List ℕ)} {c : Course} → Went number lines c → ((line : List ℕ) → number line ≡ 33 → ⊥)
       → ended c .number ≡ 33 → room < 3 * length records
   short-records (to-end a) never e = own-short (within records room) e
-  short-records (up-to read line others a ne) never e = absurd (never line e)
+  short-records (up-to read line others a ne) never e = absurd (never line (own-number-is read line ∙ e))
 
 module _ (card sheet : List ℕ) (chartRoom room : ℕ) (plans : List (List PlanStep)) where
   abbrev number : List ℕ → ℕ
@@ -159,4 +164,8 @@ module _ (card sheet : List ℕ) (chartRoom room : ℕ) (plans : List (List Plan
   -- Where a line fails, the answer is the same whatever plans the others have.
   pub fails-whatever : {line : List ℕ} (others : List (List PlanStep)) → sheetCourse card sheet chartRoom .failing ≡ some line
       → sheetAnswer card sheet chartRoom room plans ≡ sheetAnswer card sheet chartRoom room others
-  fails-whatever others e = rw e refl
+  fails-whatever {line} others e =
+      let read = sheetCourse card sheet chartRoom .read in
+      rw e
+      (ap (λ (a : SheetAnswer). cond (eqb (sheetNumber card sheet) 0) a (refusedAt (sheetNumber card sheet) 0))
+      (line-fails number read line records room ∙ sym (line-fails number read line (recordsFrom card 0 others) room)))

@@ -10,7 +10,7 @@ use lib.ListN.{length}
 use borrow.Author.Tests.{eqb-true, eqb-false, eq-eqb, ne-eqb}
 use Rattle.grammar.specs.Plan.{PlanStep}
 use Rattle.layout.specs.Answers.{chartState, ChartAfter}
-use Rattle.sheet.specs.Sheet.{Course, readFirst, course, ChartsAfter}
+use Rattle.sheet.specs.Sheet.{Course, readFirst, course, ChartsAfter, SheetRecord, refusedAt, courseAnswer}
 use Rattle.sheet.specs.Promise.{LineRead, EachRead, none, more}
 
 -- Every one of the lines has the number 0.
@@ -33,6 +33,11 @@ pub course-fails : {number : List ℕ → ℕ} {lines : List (List ℕ)} (line :
 course-fails {number} line others no-line ne = rw (ne-eqb (number line) 0 ne)
 course-fails {number} line others (one-line {line = first} z a) ne =
     rw (eq-eqb (number first) 0 z) (ap (readFirst first) (course-fails line others a ne))
+
+-- A line that fails gives its own number and its place, whatever the records and the room for them.
+pub line-fails : (number : List ℕ → ℕ) (read : List (List ℕ)) (line : List ℕ) (records : List SheetRecord) (room : ℕ)
+    → courseAnswer number (record { read = read; failing = some line }) records room ≡ refusedAt (number line) (length read)
+line-fails number read line records room = refl
 
 -- How a course went, seen from its lines.
 pub data Went (number : List ℕ → ℕ) : List (List ℕ) → Course → Type 0 where

@@ -20,11 +20,11 @@ use Rattle.layout.proofs.Checking.{steps-bytes}
 use Rattle.layout.proofs.Packing.{read-fits, passing-pairs-few}
 use Rattle.split.specs.Lines.{linesOf}
 use Rattle.sheet.specs.Sheet.{mostLines, sheetRefusals, sheetNumber, linesToRead, ownPlanRoom, readNumber, Course, sheetCourse}
-use Rattle.sheet.specs.Sheet.{SheetRecord, sheetRecord, recordsFrom, SheetAnswer, refusedAt, endAnswer, sheetAnswer}
+use Rattle.sheet.specs.Sheet.{SheetRecord, sheetRecord, recordsFrom, SheetAnswer, refusedAt, courseAnswer, sheetAnswer}
 use Rattle.sheet.specs.Promise.{LineRead, EachRead, none, more, Sheet}
 use Rattle.sheet.proofs.Within.{Within, short, fits, within}
 use Rattle.sheet.proofs.AnswerLaws.{output-short}
-use Rattle.sheet.proofs.CourseLaws.{Went, to-end, up-to, went}
+use Rattle.sheet.proofs.CourseLaws.{line-fails, Went, to-end, up-to, went}
 
 pairs-few : {card line : List ℕ} {plan : List PlanStep} → LineRead card line plan → length (pairsOf (grammarOf card) plan) ≤ 11
 pairs-few {card} {line} {plan} r =
@@ -73,10 +73,12 @@ within-fits n (fits h) = record { number = omega arith; line = omega arith; reco
 
 ended-fits : {number : List ℕ → ℕ} {lines : List (List ℕ)} {c : Course} (records : List SheetRecord) (room : ℕ) → Went number lines c
     → ((line : List ℕ) → number line ≤ 35)
-    → SheetFits (length lines) (length records) (endAnswer number (length (c .read)) (c .failing) records room)
+    → SheetFits (length lines) (length records) (courseAnswer number c records room)
 ended-fits {lines = lines} records room (to-end a) h = within-fits (length lines) (within records room)
-ended-fits records room (up-to read line others a ne) h =
-    let few = h line in record { number = omega arith; line = omega (arith, length-append read (line ∷ others)); records = omega arith }
+ended-fits {number} records room (up-to read line others a ne) h =
+    let few = h line in
+    rw (line-fails number read line records room)
+    (record { number = omega arith; line = omega (arith, length-append read (line ∷ others)); records = omega arith })
 
 answer-fits : (card sheet : List ℕ) (chartRoom room : ℕ) (plans : List (List PlanStep))
     → SheetFits (length (linesToRead card sheet)) (length (recordsFrom card 0 plans)) (sheetAnswer card sheet chartRoom room plans)
@@ -84,8 +86,8 @@ answer-fits card sheet chartRoom room plans = by-test (eqb (sheetNumber card she
   where
     by-test : (b : Bool)
         → SheetFits (length (linesToRead card sheet)) (length (recordsFrom card 0 plans))
-        (cond b (endAnswer (readNumber card chartRoom) (length (sheetCourse card sheet chartRoom .read)) (sheetCourse card sheet chartRoom .failing)
-        (recordsFrom card 0 plans) room) (refusedAt (sheetNumber card sheet) 0))
+        (cond b (courseAnswer (readNumber card chartRoom) (sheetCourse card sheet chartRoom) (recordsFrom card 0 plans) room)
+        (refusedAt (sheetNumber card sheet) 0))
     by-test true =
         ended-fits (recordsFrom card 0 plans) room (went (readNumber card chartRoom) (linesToRead card sheet))
         (λ line. read-fits card line chartRoom ownPlanRoom .number)

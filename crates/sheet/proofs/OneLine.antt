@@ -25,11 +25,11 @@ use Rattle.layout.proofs.Packing.{passing-pairs-few, passing-pairs}
 use Rattle.reader.proofs.Answers.{answer-refused, no-chart}
 use Rattle.split.specs.Lines.{newline, inFront, linesOf}
 use Rattle.sheet.specs.Sheet.{mostLines, sheetNumber, ownPlanRoom, readNumber, Course, course, sheetCourse, tried, ChartsAfter}
-use Rattle.sheet.specs.Sheet.{SheetRecord, sheetRecord, recordsFrom, SheetAnswer, refusedAt, recordsWithin, endAnswer, sheetAnswer, outputAfter}
+use Rattle.sheet.specs.Sheet.{SheetRecord, sheetRecord, recordsFrom, SheetAnswer, refusedAt, recordsWithin, courseAnswer, sheetAnswer, outputAfter}
 use Rattle.sheet.specs.Promise.{EachRead, more, Sheet}
 use Rattle.sheet.specs.Promise as promise
 use Rattle.sheet.proofs.Within.{Within, short, fits, within}
-use Rattle.sheet.proofs.CourseLaws.{each-length}
+use Rattle.sheet.proofs.CourseLaws.{line-fails, each-length}
 use Rattle.sheet.proofs.AnswerLaws.{refused-answer, lines-course, lines-answer}
 use Rattle.sheet.proofs.Outcome.{by-card, by-none}
 
@@ -144,10 +144,10 @@ module _ {card line oldChart oldOutput newChart newOutput : List ℕ} {number at
     course-is = lines-course card line m k (s .plans) none-first ∙ ap (course (readNumber card m)) lines-are
 
     answer-is : {c : Course} → course (readNumber card m) (line ∷ []) ≡ c
-        → sheetAnswer card line m k (s .plans) ≡ endAnswer (readNumber card m) (length (c .read)) (c .failing) (recordsFrom card 0 (s .plans)) k
+        → sheetAnswer card line m k (s .plans) ≡ courseAnswer (readNumber card m) c (recordsFrom card 0 (s .plans)) k
     answer-is e =
         lines-answer card line m k (s .plans) none-first
-        ∙ ap (λ (c : Course). endAnswer (readNumber card m) (length (c .read)) (c .failing) (recordsFrom card 0 (s .plans)) k)
+        ∙ ap (λ (c : Course). courseAnswer (readNumber card m) c (recordsFrom card 0 (s .plans)) k)
         (ap (course (readNumber card m)) lines-are ∙ e)
 
     -- The one read, whether or not it is of an order.
@@ -163,7 +163,8 @@ module _ {card line oldChart oldOutput newChart newOutput : List ℕ} {number at
     by-a-line ne =
         let e : course (readNumber card m) (line ∷ []) ≡ record { read = []; failing = some line } =
         rw (ne-eqb (readNumber card m line) 0 (λ z. ne (sym own-is ∙ z))) refl in
-        as-refused ne (answer-is e ∙ ap (λ (n : ℕ). refusedAt n 0) own-is) (chart-there e refl)
+        let fails = line-fails (readNumber card m) [] line (recordsFrom card 0 (s .plans)) k in
+        as-refused ne (answer-is e ∙ fails ∙ ap (λ (n : ℕ). refusedAt n 0) own-is) (chart-there e refl)
 
     -- An order: its one plan.
     as-read : (plans : List (List PlanStep)) → s .plans ≡ plans → own ≡ 0 → EachRead card (line ∷ []) plans

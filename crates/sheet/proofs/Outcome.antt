@@ -5,7 +5,7 @@ use native.Mathlib.Omega.{arith}
 use mathlib.Core.Path.{_≡_, refl, sym, _∙_, ap, subst}
 use mathlib.Core.Bool.{true, false}
 use mathlib.Core.List.{List, [], _∷_}
-use mathlib.Core.Option.{Option, none}
+use mathlib.Core.Option.{none}
 use lib.Dec.{leb}
 use lib.ListN.{length, take}
 use lib.Seq.{length-take-le}
@@ -17,7 +17,7 @@ use Rattle.layout.specs.Answers.{HasDerivation}
 use Rattle.layout.proofs.RefusalLaws.{before-refuses, before-accepts}
 use Rattle.split.specs.Lines.{linesOf}
 use Rattle.sheet.specs.Sheet.{mostLines, sheetNumber, readNumber, Course, course, sheetCourse, tried, ChartsAfter, outputAfter}
-use Rattle.sheet.specs.Sheet.{recordsFrom, SheetAnswer, refusedAt, recordsWithin, endAnswer, sheetAnswer}
+use Rattle.sheet.specs.Sheet.{recordsFrom, SheetAnswer, refusedAt, recordsWithin, sheetAnswer}
 use Rattle.sheet.specs.Promise.{EachRead, lineAt, Sheet}
 use Rattle.sheet.specs.Promise as promise
 use Rattle.sheet.specs.Reading.{recordRoom, Ends, HandsOut}
@@ -86,18 +86,13 @@ module _ (card sheet oldChart oldOutput : List ℕ) where
     pub failed : {records : List ℕ} {ending : Ending} {place n number line count : ℕ} → Ends card sheet oldChart newChart records ending
         → ending ≡ Failed place n → (number ≡ n) × (line ≡ place) × (count ≡ 0)
         → Sheet card sheet oldChart oldOutput newChart oldOutput number line count
-    failed {records} ended f (e, l, c) =
+    failed {records} {place = place} {n = n} ended f (e, l, c) =
         let x = subst (Ends card sheet oldChart newChart records) f ended in
         let m = length oldChart in
         let k = length oldOutput in
         let plans = x .plans in
-        let (failing, is, at, own) = x .ending in
-        let all = recordsFrom card 0 plans in
         let course-is = lines-course card sheet m k plans z in
-        let ends = lines-answer card sheet m k plans z
-        ∙ ap (λ (o : Option (List ℕ)). endAnswer (readNumber card m) (length (course (readNumber card m) (linesOf sheet) .read)) o all k) is in
-        sheet-is plans (refusedAt (readNumber card m failing) (length (course (readNumber card m) (linesOf sheet) .read))) ends
-        (e ∙ own) (l ∙ at) c
+        sheet-is plans (refusedAt n place) (lines-answer card sheet m k plans z ∙ sym (x .answer k)) e l c
         (subst (λ (y : Course). EachRead card (y .read) plans) (sym course-is) (x .each))
         (subst (λ (y : Course). ChartsAfter card (readNumber card m) (tried y) oldChart newChart) (sym course-is) (x .chart))
         refl
@@ -111,13 +106,11 @@ module _ (card sheet oldChart oldOutput : List ℕ) where
         let m = length oldChart in
         let k = length oldOutput in
         let plans = x .plans in
-        let (is, counted, within, room, bytes) = x .ending in
+        let (counted, within, room, bytes) = x .kept in
         let all = recordsFrom card 0 plans in
         let h = hands all counted bytes in
         let course-is = lines-course card sheet m k plans z in
-        let ends = lines-answer card sheet m k plans z
-        ∙ ap (λ (o : Option (List ℕ)). endAnswer (readNumber card m) (length (course (readNumber card m) (linesOf sheet) .read)) o all k) is in
-        sheet-is plans (recordsWithin all k) ends (h .number) (h .line) (h .count)
+        sheet-is plans (recordsWithin all k) (lines-answer card sheet m k plans z ∙ sym (x .answer k)) (h .number) (h .line) (h .count)
         (subst (λ (y : Course). EachRead card (y .read) plans) (sym course-is) (x .each))
         (subst (λ (y : Course). ChartsAfter card (readNumber card m) (tried y) oldChart newChart) (sym course-is) (x .chart))
         (h .output)
@@ -126,10 +119,10 @@ module _ (card sheet oldChart oldOutput : List ℕ) where
 module _ {card sheet oldChart newChart records : List ℕ} {ending : Ending} {count : ℕ} (ended : Ends card sheet oldChart newChart records ending)
     (f : ending ≡ Read count) where
   pub read-few : 3 * count ≤ recordRoom
-  read-few = let x = subst (Ends card sheet oldChart newChart records) f ended in x .ending .2
+  read-few = let x = subst (Ends card sheet oldChart newChart records) f ended in x .kept .1
 
   pub read-within : 3 * count ≤ length records
-  read-within = let x = subst (Ends card sheet oldChart newChart records) f ended in omega (arith, x .ending .2, x .ending .3)
+  read-within = let x = subst (Ends card sheet oldChart newChart records) f ended in omega (arith, x .kept .1, x .kept .2)
 
   pub read-taken : 3 * count ≡ length (take (3 * count) records)
   read-taken = sym (length-take-le (3 * count) records read-within)

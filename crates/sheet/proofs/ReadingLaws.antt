@@ -11,13 +11,14 @@ use Rattle.layout.specs.Card.{grammarOf}
 use Rattle.layout.proofs.Writing.{wrote-front, wrote-length}
 use Rattle.split.specs.Lines.{linesOf, LineEnds}
 use Rattle.sheet.specs.Sheet.{readNumber, Course, course, tried, ChartsAfter, sheetRecord, recordsFrom, sheetBytes, mostLines}
+use Rattle.sheet.specs.Sheet.{refusedAt, courseAnswer}
 use Rattle.sheet.specs.Promise.{EachRead}
 use Rattle.sheet.specs.Promise as promise
-use Rattle.sheet.specs.Reading.{recordRoom, RoomForLine, Adds, EndsAs, Ends}
+use Rattle.sheet.specs.Reading.{recordRoom, RoomForLine, Adds, Ends}
 use Rattle.sheet.specs.declared.Added.{Added}
 use Rattle.sheet.specs.declared.Ending.the-variants.{Read, Failed}
 use Rattle.sheet.proofs.RecordLaws.{sheet-bytes-join, records-one-more}
-use Rattle.sheet.proofs.CourseLaws.{AllRead, no-line, all-one-more, course-all, course-fails, each-one-more, each-length, charts-one-more}
+use Rattle.sheet.proofs.CourseLaws.{AllRead, no-line, all-one-more, course-all, course-fails, line-fails, each-one-more, each-length, charts-one-more}
 
 -- The lines up to `next`, as many as `place` says, are read: so many records.
 pub record SoFar (card sheet old chart records : List ℕ) (count place next : ℕ) : Type 0 where
@@ -125,9 +126,11 @@ module _ {card sheet old chart records : List ℕ} {count place next : ℕ} (s :
             plans = s .plans;
             each = subst (λ (c : Course). EachRead card (c .read) (s .plans)) (sym is) (s .each);
             chart = subst (λ (c : Course). ChartsAfter card number (tried c) old newChart) (sym is) charts-there;
-            ending =
-                subst (λ (c : Course). EndsAs card number c (s .plans) newRecords (Failed place (r .number))) (sym is)
-                (line, refl, s .places, number-is);
+            answer =
+                λ room. ap (λ (n : ℕ). refusedAt n place) number-is ∙ ap (refusedAt (number line)) (s .places)
+                ∙ sym (line-fails number (s .lines) line (recordsFrom card 0 (s .plans)) room)
+                ∙ ap (λ (c : Course). courseAnswer number c (recordsFrom card 0 (s .plans)) room) (sym is);
+            kept = tt;
           }
 
   -- The sheet is at its end: every line is read.
@@ -144,7 +147,6 @@ module _ {card sheet old chart records : List ℕ} {count place next : ℕ} (s :
         chart =
             subst (λ (c : Course). ChartsAfter card number (tried c) old chart) (sym is)
             (subst (λ (l : List (List ℕ)). ChartsAfter card number l old chart) (sym (append-nil (s .lines))) (s .charts));
-        ending =
-            subst (λ (c : Course). EndsAs card number c (s .plans) records (Read count)) (sym is)
-            (refl, s .counted, within, s .room, s .bytes);
+        answer = λ room. ap (λ (c : Course). courseAnswer number c (recordsFrom card 0 (s .plans)) room) (sym is);
+        kept = (s .counted, within, s .room, s .bytes);
       }

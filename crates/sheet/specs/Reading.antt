@@ -3,7 +3,6 @@
 use Prim.Native.Nat.{ℕ, _+_, _*_, _≤_}
 use mathlib.Core.Path.{_≡_}
 use mathlib.Core.List.{List, [], _∷_, map}
-use mathlib.Core.Option.{none, some}
 use lib.ListN.{length, take}
 use Rattle.grammar.specs.Plan.{PlanStep}
 use Rattle.grammar.specs.Pairs.{pairsOf}
@@ -12,8 +11,8 @@ use Rattle.layout.specs.Steps.{stepsOf}
 use Rattle.layout.specs.Answers.{chartState, ChartAfter, planPairs}
 use Rattle.layout.specs.Written.{Wrote}
 use Rattle.split.specs.Lines.{linesOf}
-use Rattle.sheet.specs.Sheet.{mostLines, readNumber, Course, course, tried, ChartsAfter, SheetRecord, sheetRecord, recordsFrom, sheetBytes}
-use Rattle.sheet.specs.Sheet.{recordsWithin, outputAfter}
+use Rattle.sheet.specs.Sheet.{mostLines, readNumber, course, tried, ChartsAfter, SheetRecord, sheetRecord, recordsFrom, sheetBytes}
+use Rattle.sheet.specs.Sheet.{SheetAnswer, refusedAt, recordsWithin, courseAnswer, outputAfter}
 use Rattle.sheet.specs.Promise.{LineRead, EachRead}
 use Rattle.sheet.specs.declared.Answer.{Answer}
 use Rattle.sheet.specs.declared.Added.{Added}
@@ -57,21 +56,26 @@ pub record Adds (card line : List ℕ) (k : ℕ) (oldChart newChart old : List �
   pub chart : ChartAfter card line (chartState (readNumber card (length oldChart) line)) oldChart newChart
   pub read : r .number ≡ 0 → AddsRead card line k old count new (r .count)
 
--- How the lines end, beside the course that their numbers give: with the records of all plans at the start of the room, or with the
--- place and the number of the line that fails.
-abbrev pub EndsAs : List ℕ → (List ℕ → ℕ) → Course → List (List PlanStep) → List ℕ → Ending → Type 0
-EndsAs card number c plans records (Read count) =
-    (c .failing ≡ none) × (count ≡ length (recordsFrom card 0 plans)) × (3 * count ≤ recordRoom) × (length records ≡ recordRoom)
-    × (take (3 * count) records ≡ sheetBytes (recordsFrom card 0 plans))
-EndsAs card number c plans records (Failed place n) =
-    (line : List ℕ) × (c .failing ≡ some line) × (place ≡ length (c .read)) × (n ≡ number line)
+-- How the lines end: what each case answers, with these records and so much output room.
+abbrev pub endingAnswer : Ending → List SheetRecord → ℕ → SheetAnswer
+endingAnswer (Read count) records room = recordsWithin records room
+endingAnswer (Failed line number) records room = refusedAt number line
 
-pub record Ends (card sheet oldChart newChart records : List ℕ) (r : Ending) : Type 0 where
+-- Where all lines are read, the bytes of so many records stand at the start of their room.
+abbrev pub Kept : List ℕ → List SheetRecord → Ending → Type 0
+Kept bytes records (Read count) =
+    (count ≡ length records) × (3 * count ≤ recordRoom) × (length bytes ≡ recordRoom) × (take (3 * count) bytes ≡ sheetBytes records)
+Kept bytes records (Failed line number) = Unit {0}
+
+-- The answer is that of the course which the lines' numbers give, whatever output room there is.
+pub record Ends (card sheet oldChart newChart bytes : List ℕ) (r : Ending) : Type 0 where
   pub plans : List (List PlanStep)
   pub each : EachRead card (course (readNumber card (length oldChart)) (linesOf sheet) .read) plans
   pub chart : ChartsAfter card (readNumber card (length oldChart))
       (tried (course (readNumber card (length oldChart)) (linesOf sheet))) oldChart newChart
-  pub ending : EndsAs card (readNumber card (length oldChart)) (course (readNumber card (length oldChart)) (linesOf sheet)) plans records r
+  pub answer : (room : ℕ) → endingAnswer r (recordsFrom card 0 plans) room
+      ≡ courseAnswer (readNumber card (length oldChart)) (course (readNumber card (length oldChart)) (linesOf sheet)) (recordsFrom card 0 plans) room
+  pub kept : Kept bytes (recordsFrom card 0 plans) r
 
 -- The bytes of records are handed out, `count` of them, whatever they are: 33 where the output room is too short.
 pub record Handed (records : List SheetRecord) (before after : List ℕ) (r : Answer) : Type 0 where

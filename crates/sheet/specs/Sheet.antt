@@ -100,11 +100,14 @@ abbrev pub endAnswer : (List ℕ → ℕ) → ℕ → Option (List ℕ) → List
 endAnswer number place none records room = recordsWithin records room
 endAnswer number place (some line) records room = refusedAt (number line) place
 
+-- Of a course: the place of the line that fails is how many are read before it.
+abbrev pub courseAnswer : (List ℕ → ℕ) → Course → List SheetRecord → ℕ → SheetAnswer
+courseAnswer number c records room = endAnswer number (length (c .read)) (c .failing) records room
+
 abbrev pub sheetAnswer : List ℕ → List ℕ → ℕ → ℕ → List (List PlanStep) → SheetAnswer
 sheetAnswer card sheet chartRoom room plans =
-    let c = sheetCourse card sheet chartRoom in
     cond (eqb (sheetNumber card sheet) 0)
-    (endAnswer (readNumber card chartRoom) (length (c .read)) (c .failing) (recordsFrom card 0 plans) room)
+    (courseAnswer (readNumber card chartRoom) (sheetCourse card sheet chartRoom) (recordsFrom card 0 plans) room)
     (refusedAt (sheetNumber card sheet) 0)
 
 -- The output room afterwards: the records, and then what was there.
