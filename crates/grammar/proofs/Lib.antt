@@ -1,6 +1,5 @@
 pub mod ListLaws
 pub mod StandsLaws
-pub mod InputLaws
 pub mod YieldsLaws
 pub mod RewritingYields
 pub mod Deduction

@@ -14,7 +14,7 @@ use Rattle.layout.specs.Refusals.{Refusal, unless, firstRefusal}
 use Rattle.layout.specs.Card.{nonterminalCount, wordCount, indexCount, productionCount, wordTable, productionTable, cardLength}
 use Rattle.layout.specs.Card.{headerLength, mostCardBytes, entryAt, entryLength, productionAt, productionLength}
 use Rattle.layout.specs.Card.{maxNonterminals, maxWords, maxIndices, maxProductions, within, cardRefusals, cardNumber}
-use Rattle.layout.specs.Card.{markFits, countsFit, lengthsFit, entriesFit, entriesDiffer, productionsFit}
+use Rattle.layout.specs.Card.{markFits, countsFit, lengthsFit, entriesFit, productionsFit}
 use Rattle.layout.specs.Line.{wordsOf, isLineByte, allKnown, lineRefusals, lineNumber, mostWords}
 use Rattle.layout.specs.Answers.{inputRefusals, inputNumber, wordsIn, planPasses, checkNumber, nameNumber}
 use Rattle.layout.specs.Steps.{stepsOf}
@@ -27,7 +27,6 @@ pub record AcceptedCard (card : List ℕ) : Type 0 where
   pub counted : countsFit card ≡ true
   pub measured : lengthsFit card ≡ true
   pub fit : entriesFit card ≡ true
-  pub differ : entriesDiffer card ≡ true
   pub table : productionsFit card ≡ true
 
 pub accepted-card : (card : List ℕ) → cardNumber card ≡ 0 → AcceptedCard card
@@ -38,8 +37,7 @@ accepted-card card z =
       counted = zero-holds l refl z (there here);
       measured = zero-holds l refl z (there (there here));
       fit = zero-holds l refl z (there (there (there here)));
-      differ = zero-holds l refl z (there (there (there (there here))));
-      table = zero-holds l refl z (there (there (there (there (there here)))));
+      table = zero-holds l refl z (there (there (there (there here))));
     }
 
 -- Its counts, and its length.
@@ -130,6 +128,17 @@ input-small card line = first-most (inputRefusals card line)
 
 pub input-other : (card line : List ℕ) → inputNumber card line ≡ 25 → ⊥
 input-other card line e = first-other 24 (inputRefusals card line) refl e
+
+-- 15 no longer occurs: no list of refusals has it, with Check's and Name's own after them.
+pub input-never-15 : (card line : List ℕ) → inputNumber card line ≡ 15 → ⊥
+input-never-15 card line e = first-other 14 (inputRefusals card line) refl e
+
+pub check-never-15 : (card line plan : List ℕ) → checkNumber card line plan ≡ 15 → ⊥
+check-never-15 card line plan e =
+    first-other 14 (inputRefusals card line ++ (unless (planPasses card line (stepsOf plan)) 34 ∷ [])) refl e
+
+pub name-never-15 : (card : List ℕ) (word : ℕ) → nameNumber card word ≡ 15 → ⊥
+name-never-15 card word e = first-other 14 (cardRefusals card ++ (unless (ltb word (wordCount card)) 35 ∷ [])) refl e
 
 -- Check's own condition comes last.
 pub check-of-input : (card line plan : List ℕ) → (inputNumber card line ≡ 0 → ⊥) → checkNumber card line plan ≡ inputNumber card line

@@ -1,24 +1,27 @@
 -- Check's number is 0 exactly for the bytes of a leftmost derivation of an accepted line: bytes and steps are each other's, and the
 -- plan test decides the rest. So what Read may write passes Check, and what passes Check derives the line in 2n − 1 steps.
 use Prim.Native.Nat.{ℕ, _*_, _-_}
-use mathlib.Core.Path.{_≡_, refl, sym, _∙_, ap, subst}
+use mathlib.Core.Path.{_≡_, refl, sym, _∙_, ap}
 use mathlib.Core.Bool.{true, false, false≢true}
-use mathlib.Core.List.{List, [], _∷_, _++_}
+use mathlib.Core.List.{List, [], _∷_, _++_, map}
 use mathlib.Core.Option.{Option, none, some}
 use lib.ListN.{length, drop}
 use Rattle.grammar.specs.Input.{Holds}
-use Rattle.grammar.specs.Plan.{PlanStep, planStep, LeftmostDerivation, passes}
+use Rattle.grammar.specs.Rewriting.{word, start}
+use Rattle.grammar.specs.Plan.{PlanStep, planStep, productionIn, LeftmostSteps, passes}
 use Rattle.grammar.proofs.StandsLaws.{none-some, some-same}
+use Rattle.grammar.proofs.Leftmost.{plan-rewrites, rewriting-plans}
 use Rattle.grammar.proofs.PlanTest.{passes-sound, passes-complete}
 use Rattle.grammar.proofs.PlanSize.{derivation-length}
-use Rattle.grammar.proofs.Existence.{plan-derivation}
+use Rattle.grammar.proofs.Existence.{plan-derivable}
 use Rattle.layout.specs.Card.{grammarOf}
-use Rattle.layout.specs.Line.{numbersOf}
+use Rattle.layout.specs.Line.{wordsOf, Spelled}
 use Rattle.layout.specs.Steps.{planBytes, stepsOf, andStep, planSteps}
 use Rattle.layout.specs.Answers.{inputNumber, wordsIn, lineTest, Derives, HasDerivation, planPasses, checkNumber, PlanFor, PlanWritten}
 use Rattle.layout.proofs.Accepting.{check-accepts, check-of-plan}
 use Rattle.layout.proofs.CardLaws.{card-one-sided}
-use Rattle.layout.proofs.Reading.{count-numbers}
+use Rattle.layout.proofs.Spellings.{spelled-stand, stand-spelled}
+use Rattle.layout.proofs.Reading.{has-derivation}
 
 pub steps-bytes : (plan : List PlanStep) → stepsOf (planBytes plan) ≡ some plan
 steps-bytes [] = refl
@@ -63,9 +66,23 @@ pub derives-length : (card line : List ℕ) {plan : List PlanStep} → Derives c
 derives-length card line d = derivation-length (grammarOf card) (Holds (lineTest card line)) (card-one-sided card) d
 
 pub derives-derivation : (card line : List ℕ) {plan : List PlanStep} → Derives card line plan → HasDerivation card line
-derives-derivation card line {plan} d =
-    plan-derivation (grammarOf card) (numbersOf card line)
-    (subst (λ (n : ℕ). LeftmostDerivation (grammarOf card) (Holds (lineTest card line)) n plan) (sym (count-numbers card line)) d)
+derives-derivation card line d =
+    has-derivation card line (plan-derivable (grammarOf card) (Holds (lineTest card line)) (wordsIn line) d)
+
+-- A plan is measured with the same definition (document 02, Paper 2): its productions, each replacing the leftmost nonterminal, lead
+-- from the start to a list of words whose spellings are the line's; and every such rewriting has its plan.
+pub derives-words : (card line : List ℕ) {plan : List PlanStep} → Derives card line plan
+    → (numbers : List ℕ) × Spelled card numbers (wordsOf line)
+    × LeftmostSteps (grammarOf card) (start ∷ []) (map productionIn plan) (map word numbers)
+derives-words card line d =
+    let (numbers, stand, steps) = plan-rewrites (grammarOf card) (Holds (lineTest card line)) d in
+    (numbers, stand-spelled card (wordsOf line) stand, steps)
+
+pub words-derive : (card line : List ℕ) {numbers ps : List ℕ} → Spelled card numbers (wordsOf line)
+    → LeftmostSteps (grammarOf card) (start ∷ []) ps (map word numbers)
+    → (plan : List PlanStep) × Derives card line plan × (map productionIn plan ≡ ps)
+words-derive card line s steps =
+    rewriting-plans (grammarOf card) (Holds (lineTest card line)) steps (spelled-stand card s)
 
 -- A leftmost derivation is a plan of its line, and written at the start of a room it is what Read promises.
 pub plan-for : (card line : List ℕ) (plan : List PlanStep) → inputNumber card line ≡ 0 → Derives card line plan → PlanFor card line plan

@@ -2,6 +2,7 @@ pub mod TestLaws
 pub mod RefusalLaws
 pub mod ViewLaws
 pub mod Accepting
+pub mod Spellings
 pub mod CardLaws
 pub mod CountedLaws
 pub mod RuleLaws
@@ -14,3 +15,4 @@ pub mod Checking
 pub mod Packing
 pub mod Charts
 pub mod Table
+pub mod Alike

@@ -2,45 +2,49 @@
 -- the start over the whole line is among the computed items exactly when the line has a derivation.
 use Prim.Native.Nat.{ℕ}
 use native.Mathlib.Omega.{arith}
-use mathlib.Core.Path.{_≡_, refl, sym, _∙_, subst}
+use mathlib.Core.Path.{_≡_, refl, sym, _∙_}
 use mathlib.Core.Bool.{Bool, true, false, cond, false≢true}
 use mathlib.Core.List.{List}
 use lib.Dec.{eqb, ltb}
-use lib.ListN.{length, length-map}
+use lib.ListN.{length}
 use borrow.Author.Tests.{eqb-true, eq-eqb, le-ltb, ltb-false}
 use Rattle.grammar.specs.Input.{Holds, Below}
-use Rattle.grammar.specs.Items.{bare, Derived}
+use Rattle.grammar.specs.Items.{bare}
 use Rattle.grammar.specs.ItemList.{item, items}
-use Rattle.grammar.proofs.InputLaws.{words-below}
 use Rattle.grammar.proofs.ItemListExact.{items-sound, items-complete, among-true, among-mem}
-use Rattle.grammar.proofs.Existence.{derivation-item, item-derivation}
+use Rattle.grammar.proofs.Existence.{Derivable, derivable-item, item-derivable}
 use Rattle.layout.specs.Card.{grammarOf}
-use Rattle.layout.specs.Line.{wordsOf, numbersOf, numberOfWord, orZero}
+use Rattle.layout.specs.Line.{wordsOf}
 use Rattle.layout.specs.Steps.{planRoom, planSteps}
 use Rattle.layout.specs.Answers.{inputNumber, wordsIn, lineTest, derivable, startFound, HasDerivation}
 use Rattle.layout.specs.Answers.{ReadAnswer, refusal, found, outnumber, chartAnswer, readAnswer, RoomEnough}
-use Rattle.layout.proofs.Accepting.{input-other}
-
-pub count-numbers : (card line : List ℕ) → length (numbersOf card line) ≡ wordsIn line
-count-numbers card line = length-map (wordsOf line) (λ word. orZero (numberOfWord card word))
+use Rattle.layout.proofs.Accepting.{input-other, input-never-15}
+use Rattle.layout.proofs.Spellings.{spelled-below, spelled-stand, stand-spelled}
 
 pub line-below : (card line : List ℕ) → Below (Holds (lineTest card line)) (wordsIn line)
-line-below card line = subst (Below (Holds (lineTest card line))) (count-numbers card line) (words-below (numbersOf card line))
+line-below card line = spelled-below card (wordsOf line)
+
+-- A derivation of the line, and a list of words at its places with a derivation of that list, are the same.
+pub has-derivation : (card line : List ℕ) → Derivable (grammarOf card) (Holds (lineTest card line)) (wordsIn line) → HasDerivation card line
+has-derivation card line d =
+    record { words = d .words; spelled = stand-spelled card (wordsOf line) (d .stand); derivation = d .derivation }
+
+derivation-stands : (card line : List ℕ) → HasDerivation card line → Derivable (grammarOf card) (Holds (lineTest card line)) (wordsIn line)
+derivation-stands card line d =
+    record { words = d .words; stand = spelled-stand card (d .spelled); derivation = d .derivation }
 
 pub found-derivation : (card line : List ℕ) → startFound card line ≡ true → HasDerivation card line
 found-derivation card line e =
     let n = wordsIn line in
     let g = grammarOf card in
     let d = items-sound g (lineTest card line) n 0 0 n bare (among-true (item 0 0 n bare) (derivable card line) e) in
-    item-derivation g (numbersOf card line)
-    (subst (λ (m : ℕ). Derived g (Holds (lineTest card line)) 0 0 m bare) (sym (count-numbers card line)) d)
+    has-derivation card line (item-derivable g (Holds (lineTest card line)) n d)
 
 pub derivation-found : (card line : List ℕ) → HasDerivation card line → startFound card line ≡ true
 derivation-found card line d =
     let n = wordsIn line in
     let g = grammarOf card in
-    let i = subst (λ (m : ℕ). Derived g (Holds (lineTest card line)) 0 0 m bare) (count-numbers card line)
-    (derivation-item g (numbersOf card line) d) in
+    let i = derivable-item g (Holds (lineTest card line)) n (derivation-stands card line d) in
     among-mem (items-complete g (lineTest card line) n (line-below card line) 0 0 n bare i)
 
 -- What an answer with a number v says that is neither 32 nor a refusal of the card or the line: every refusal before the chart's is
@@ -64,6 +68,10 @@ found-zero false n count e = absurd (omega arith)
 found-none : (f : Bool) (n count : ℕ) → found f n count .number ≡ 25 → f ≡ false
 found-none true n count e = absurd (omega arith)
 found-none false n count e = refl
+
+found-other : (f : Bool) (n count : ℕ) → found f n count .number ≡ 15 → ⊥
+found-other true n count e = omega arith
+found-other false n count e = omega arith
 
 module _ (card line : List ℕ) (chartRoom room : ℕ) where
   -- A number v that is no refusal before the chart's own two.
@@ -90,6 +98,12 @@ module _ (card line : List ℕ) (chartRoom room : ℕ) where
   no-reading e d =
       let (_, _, e′) = reached 25 (λ x. absurd (input-other card line x)) (omega arith) (omega arith) e in
       false≢true (sym (found-none (startFound card line) _ _ e′) ∙ derivation-found card line d)
+
+  -- No line gets 15.
+  pub read-never-15 : readAnswer card line chartRoom room .number ≡ 15 → ⊥
+  read-never-15 e =
+      let (_, _, e′) = reached 15 (λ x. absurd (input-never-15 card line x)) (omega arith) (omega arith) e in
+      found-other (startFound card line) _ _ e′
 
   -- An accepted card, a line of 1 to 24 known words, room enough and a derivation: it is read.
   pub derivation-read : inputNumber card line ≡ 0 → RoomEnough card line chartRoom room → HasDerivation card line

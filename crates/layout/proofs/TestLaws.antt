@@ -4,12 +4,12 @@ use Prim.Native.Nat.{ℕ, zero, suc, _<_, _≤_}
 use native.Mathlib.Omega.{arith}
 use native.Mathlib.Decide.{ℕ-discrete}
 use mathlib.Core.Path.{_≡_, refl, sym, _∙_, ap, ap₂}
-use mathlib.Core.Bool.{Bool, true, false, not, _&&_, and-assoc, and-eq-true-iff, false≢true}
+use mathlib.Core.Bool.{Bool, true, false, not, _&&_, _||_, and-eq-true-iff, false≢true}
 use mathlib.Core.List.{List, [], _∷_, _++_}
 use borrow.Author.Tests.{not-true, not-false, leb-true, leb-false, eqb-true, eqb-false, le-leb, lt-leb, eq-eqb, ne-eqb}
 use lib.Dec.{eqb, leb}
 use lib.ListN.{length, getD}
-use Rattle.layout.specs.Bytes.{sameBytes, allBytes, allBelow}
+use Rattle.layout.specs.Bytes.{sameBytes, allBytes, allBelow, someBelow}
 use Rattle.layout.specs.Card.{within}
 
 -- A test that was made by a function: its answer t is the definition's b.
@@ -77,20 +77,11 @@ same-length [] (y ∷ b) h = refl
 same-length (x ∷ a) [] h = refl
 same-length (x ∷ a) (y ∷ b) h = no-later (eqb x y) (same-length a b λ e. h (ap suc e))
 
-pub same-self : (a : List ℕ) → sameBytes a a ≡ true
-same-self a = sym (same-all a a refl λ k lt. refl)
-
 pub same-equal : (a b : List ℕ) → sameBytes a b ≡ true → a ≡ b
 same-equal [] [] h = refl
 same-equal [] (y ∷ b) h = absurd (false≢true h)
 same-equal (x ∷ a) [] h = absurd (false≢true h)
 same-equal (x ∷ a) (y ∷ b) h = let (e, f) = both (eqb x y) (sameBytes a b) h in ap₂ _∷_ (eqb-true x y e) (same-equal a b f)
-
-pub same-append : (a b a′ b′ : List ℕ) → length a ≡ length b → sameBytes (a ++ a′) (b ++ b′) ≡ (sameBytes a b && sameBytes a′ b′)
-same-append [] [] a′ b′ e = refl
-same-append [] (y ∷ b) a′ b′ e = absurd (omega arith)
-same-append (x ∷ a) [] a′ b′ e = absurd (omega arith)
-same-append (x ∷ a) (y ∷ b) a′ b′ e = rw (and-assoc, same-append a b a′ b′ (omega arith))
 
 -- Of every number below n.
 pub all-below : (n : ℕ) (test : ℕ → Bool) → ((v : ℕ) → v < n → test v ≡ true) → true ≡ allBelow n test
@@ -108,3 +99,22 @@ below-all n test h v lt = go (test v) refl
     go : (t : Bool) → test v ≡ t → t ≡ true
     go true e = refl
     go false e = some-below n test v lt e ∙ h
+
+-- Of some number below n.
+pub one-below : (n : ℕ) (test : ℕ → Bool) (v : ℕ) → v < n → test v ≡ true → someBelow n test ≡ true
+one-below zero test v lt h = absurd (omega arith)
+one-below (suc n) test v lt h =
+    elim (ℕ-discrete v n) [ yes e ↦ rw (← e, h) | no ne ↦ rw (one-below n test v (omega arith) h) (or-true (test n)) ]
+  where
+    or-true : (t : Bool) → (t || true) ≡ true
+    or-true true = refl
+    or-true false = refl
+
+pub below-one : (n : ℕ) (test : ℕ → Bool) → someBelow n test ≡ true → (v : ℕ) × (v < n) × (test v ≡ true)
+below-one zero test h = absurd (false≢true h)
+below-one (suc n) test h = go (test n) refl h (below-one n test)
+  where
+    go : (t : Bool) → test n ≡ t → (t || someBelow n test) ≡ true → (someBelow n test ≡ true → (v : ℕ) × (v < n) × (test v ≡ true))
+        → (v : ℕ) × (v < suc n) × (test v ≡ true)
+    go true e h further = (n, omega arith, e)
+    go false e h further = let (v, lt, f) = further h in (v, omega arith, f)

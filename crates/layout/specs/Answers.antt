@@ -9,7 +9,7 @@ use mathlib.Core.Option.{Option, none, some}
 use lib.Dec.{eqb, ltb}
 use lib.ListN.{length, drop, replicate}
 use Rattle.grammar.specs.Rewriting.{Derivation}
-use Rattle.grammar.specs.Input.{Holds, wordIs}
+use Rattle.grammar.specs.Input.{Holds}
 use Rattle.grammar.specs.Items.{bare}
 use Rattle.grammar.specs.ItemList.{Item, item, items, among}
 use Rattle.grammar.specs.Plan.{PlanStep, LeftmostDerivation, passes}
@@ -17,7 +17,7 @@ use Rattle.grammar.specs.Pairs.{Pair, pairsOf}
 use Rattle.grammar.specs.Chart.{Record, IsChart}
 use Rattle.layout.specs.Refusals.{Refusal, unless, firstRefusal}
 use Rattle.layout.specs.Card.{grammarOf, cardRefusals, wordCount, entryAt, spelling, spellingLength}
-use Rattle.layout.specs.Line.{wordsOf, numbersOf, lineRefusals}
+use Rattle.layout.specs.Line.{wordsOf, spelledAt, Spelled, lineRefusals}
 use Rattle.layout.specs.Records.{chartBytes, recordLength, capacity}
 use Rattle.layout.specs.Steps.{planBytes, stepsOf, planSteps, planRoom, pairsBytes}
 
@@ -28,12 +28,12 @@ inputRefusals card line = cardRefusals card ++ lineRefusals card line
 abbrev pub inputNumber : List ℕ → List ℕ → ℕ
 inputNumber card line = firstRefusal (inputRefusals card line)
 
--- An accepted line as the theory reads it: how many words, which number at which place, and the derivable items.
+-- An accepted line as the theory reads it: how many words, which numbers at which place, and the derivable items.
 abbrev pub wordsIn : List ℕ → ℕ
 wordsIn line = length (wordsOf line)
 
 abbrev pub lineTest : List ℕ → List ℕ → ℕ → ℕ → Bool
-lineTest card line = wordIs (numbersOf card line)
+lineTest card line = spelledAt card (wordsOf line)
 
 abbrev pub derivable : List ℕ → List ℕ → List Item
 derivable card line = items (grammarOf card) (lineTest card line) (wordsIn line)
@@ -81,9 +81,11 @@ startFound card line = among (item 0 0 (wordsIn line) bare) (derivable card line
 abbrev pub Derives : List ℕ → List ℕ → List PlanStep → Type 0
 Derives card line plan = LeftmostDerivation (grammarOf card) (Holds (lineTest card line)) (wordsIn line) plan
 
--- The line has a derivation under the card.
-abbrev pub HasDerivation : List ℕ → List ℕ → Type 0
-HasDerivation card line = Derivation (grammarOf card) (numbersOf card line)
+-- Document 02, Paper 2: the line has a derivation under the card, which ends in a list of words whose spellings are the line's.
+pub record HasDerivation (card line : List ℕ) : Type 0 where
+  pub words : List ℕ
+  pub spelled : Spelled card words (wordsOf line)
+  pub derivation : Derivation (grammarOf card) words
 
 -- The chart room after Read: the whole chart with 0 and 25, zeros with 31, and untouched with any other number.
 pub data ChartState : Type 0 where

@@ -37,6 +37,11 @@ abbrev pub allBelow : ℕ → (ℕ → Bool) → Bool
 allBelow zero test = true
 allBelow (suc n) test = test n && allBelow n test
 
+-- Of some number below n?
+abbrev pub someBelow : ℕ → (ℕ → Bool) → Bool
+someBelow zero test = false
+someBelow (suc n) test = test n || someBelow n test
+
 -- k, k + 1, .., k + n - 1.
 abbrev pub counted : ℕ → ℕ → List ℕ
 counted k zero = []

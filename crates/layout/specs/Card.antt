@@ -1,6 +1,7 @@
--- Document 01, "The card", and the nursery's refusals 11 to 16 in "Refusals by who can cause them".
+-- Document 01, "The card", and the nursery's refusals 11 to 14 and 16 in "Refusals by who can cause them". (15 no longer occurs: document
+-- 02, Paper 2, lets entries be spelled alike.)
 use Prim.Native.Nat.{ℕ, zero, suc, _+_, _*_}
-use mathlib.Core.Bool.{Bool, true, false, cond, not, _&&_, _||_}
+use mathlib.Core.Bool.{Bool, true, false, cond, _&&_, _||_}
 use mathlib.Core.List.{List, [], _∷_, map}
 use lib.Dec.{eqb, leb, ltb}
 use lib.ListN.{length, take, drop}
@@ -87,9 +88,6 @@ spellingLength card v = byteAt card (entryAt card v)
 abbrev pub spelling : List ℕ → ℕ → List ℕ
 spelling card v = take (spellingLength card v) (drop (entryAt card v + 1) card)
 
-abbrev pub spellings : List ℕ → List (List ℕ)
-spellings card = map (spelling card) (counted 0 (wordCount card))
-
 abbrev pub padding : List ℕ → ℕ → List ℕ
 padding card v = drop (1 + spellingLength card v) (entryOf card v)
 
@@ -140,13 +138,6 @@ entryFits card v =
 abbrev pub entriesFit : List ℕ → Bool
 entriesFit card = allBelow (wordCount card) (entryFits card)
 
--- 15: no two word entries are equal.
-abbrev pub entryIsNew : List ℕ → ℕ → Bool
-entryIsNew card v = allBelow v λ u. not (sameBytes (entryOf card u) (entryOf card v))
-
-abbrev pub entriesDiffer : List ℕ → Bool
-entriesDiffer card = allBelow (wordCount card) (entryIsNew card)
-
 -- 16: each production by its kind.
 abbrev pub wordProductionFits : List ℕ → ℕ → ℕ → ℕ → ℕ → Bool
 wordProductionFits card A B C g =
@@ -179,7 +170,6 @@ cardRefusals card =
     ∷ unless (countsFit card) 12
     ∷ unless (lengthsFit card) 13
     ∷ unless (entriesFit card) 14
-    ∷ unless (entriesDiffer card) 15
     ∷ unless (productionsFit card) 16
     ∷ []
 

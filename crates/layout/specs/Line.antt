@@ -1,13 +1,14 @@
--- Document 01, "Line and rewriting" (words and their numbers), and the shift leader's refusals 22, 21, 23 and 24.
+-- Document 01, "Line and rewriting" (words and their numbers; document 02, Paper 2: one spelling may be several words), and the shift
+-- leader's refusals 22, 21, 23 and 24.
 use Prim.Native.Nat.{ℕ, zero, suc}
+use mathlib.Core.Path.{_≡_}
 use mathlib.Core.Bool.{Bool, true, false, _&&_, _||_}
-use mathlib.Core.List.{List, [], _∷_, _++_, map}
-use mathlib.Core.Option.{Option, none, some}
-use lib.Dec.{eqb, leb}
+use mathlib.Core.List.{List, [], _∷_, _++_}
+use lib.Dec.{eqb, leb, ltb}
 use lib.ListN.{length}
-use Rattle.layout.specs.Bytes.{isLetter, sameBytes, allBytes}
+use Rattle.layout.specs.Bytes.{isLetter, sameBytes, allBytes, someBelow}
 use Rattle.layout.specs.Refusals.{Refusal, unless, firstRefusal}
-use Rattle.layout.specs.Card.{spellings}
+use Rattle.layout.specs.Card.{wordCount, spelling}
 
 abbrev pub space : ℕ
 space = 0x20
@@ -24,29 +25,32 @@ wordsFrom so (b ∷ line) = elim (eqb b space) [ true ↦ ended so (wordsFrom []
 abbrev pub wordsOf : List ℕ → List (List ℕ)
 wordsOf line = wordsFrom [] line
 
--- The number of a word: the place of the entry that equals it byte by byte.
-abbrev pub placeOf : List ℕ → ℕ → List (List ℕ) → Option ℕ
-placeOf word v [] = none
-placeOf word v (spelled ∷ others) = elim (sameBytes word spelled) [ true ↦ some v | false ↦ placeOf word (suc v) others ]
+-- Document 02, Paper 2: entry v equals a word byte by byte; and the set of all words that are spelled so, as a test. Several entries may
+-- be spelled alike.
+abbrev pub equalsEntry : List ℕ → List ℕ → ℕ → Bool
+equalsEntry card word v = sameBytes word (spelling card v)
 
-abbrev pub numberOfWord : List ℕ → List ℕ → Option ℕ
-numberOfWord card word = placeOf word 0 (spellings card)
+abbrev pub isSpelled : List ℕ → List ℕ → ℕ → Bool
+isSpelled card word v = ltb v (wordCount card) && equalsEntry card word v
 
-abbrev pub isKnown : Option ℕ → Bool
-isKnown none = false
-isKnown (some v) = true
+-- The set is not empty.
+abbrev pub isKnown : List ℕ → List ℕ → Bool
+isKnown card word = someBelow (wordCount card) (equalsEntry card word)
 
 abbrev pub allKnown : List ℕ → List (List ℕ) → Bool
 allKnown card [] = true
-allKnown card (word ∷ words) = isKnown (numberOfWord card word) && allKnown card words
+allKnown card (word ∷ words) = isKnown card word && allKnown card words
 
-abbrev pub orZero : Option ℕ → ℕ
-orZero none = 0
-orZero (some v) = v
+-- Can word number v stand at place i of these words? And a list of word numbers whose spellings they are, one for one.
+abbrev pub spelledAt : List ℕ → List (List ℕ) → ℕ → ℕ → Bool
+spelledAt card [] i v = false
+spelledAt card (word ∷ words) zero v = isSpelled card word v
+spelledAt card (word ∷ words) (suc i) v = spelledAt card words i v
 
--- The numbers of the line's words, where all are known.
-abbrev pub numbersOf : List ℕ → List ℕ → List ℕ
-numbersOf card line = map (λ word. orZero (numberOfWord card word)) (wordsOf line)
+pub data Spelled (card : List ℕ) : List ℕ → List (List ℕ) → Type 0 where
+  noWord : Spelled card [] []
+  nextWord : {v : ℕ} {numbers word : List ℕ} {words : List (List ℕ)} → isSpelled card word v ≡ true → Spelled card numbers words
+      → Spelled card (v ∷ numbers) (word ∷ words)
 
 -- Bytes that a line may hold.
 abbrev pub isLineByte : ℕ → Bool
