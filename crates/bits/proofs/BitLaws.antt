@@ -117,12 +117,3 @@ pub bit-beyond : (w b x : ℕ) → x < 2 ^ w → w ≤ b → bitOf b x ≡ 0
 bit-beyond zero b x h l = let e : x ≡ 0 = omega arith in ap (bitOf b) e ∙ bitOf-zero b
 bit-beyond (suc w) zero x h l = absurd (omega arith)
 bit-beyond (suc w) (suc b) x h l = bit-beyond w b (x / 2) (omega (arith, pow-succ' 2 w)) (omega arith)
-
--- The set of one number.
-pub one-holds : (b v : ℕ) → holdsBit b (2 ^ v) ≡ eqb v b
-one-holds b v = elim (ℕ-discrete v b) [
-  | yes e ↦
-      let set : bitOf b (2 ^ v) ≡ 1 = ap (λ (k : ℕ). bitOf b (2 ^ k)) e ∙ bitOf-power b in
-      rw (eq-eqb v b e, eq-eqb _ 1 set)
-  | no d ↦ rw (ne-eqb v b d, bitOf-other b v (λ e. d (sym e)))
-]

@@ -1,16 +1,52 @@
--- Sets of numbers as bits: the least number, a set without one of its numbers, and the walk over a set that takes its least number away
--- until none is left.
+-- Sets of numbers as bits: the numbers that pass a test, the least number, a set without one of its numbers, and the walk over a set that
+-- takes its least number away until none is left.
 use Prim.Native.Nat.{ℕ, zero, suc, _+_, _-_, _/_, _%_, _^_, _≤_, _<_}
 use native.Mathlib.Omega.{arith}
 use native.Mathlib.Nat.{pow-succ'}
 use native.Mathlib.Decide.{decLe, ℕ-discrete}
 use mathlib.Core.Path.{_≡_, refl, sym, _∙_, ap}
+use mathlib.Core.Bool.{Bool, true, false, cond, _&&_}
 use mathlib.Core.Logic.{_⊎_, inl, inr}
 use lib.Bits.{bitAnd, bitOr}
 use lib.Count.{trailingZeros}
+use lib.Dec.{ltb}
 use lib.Pow.{pow-pos}
-use Rattle.bits.specs.Bits.{bitOf, Least, Without}
-use Rattle.bits.proofs.BitLaws.{bitOf-below, bitOf-zero, bitOf-or, bitOf-and}
+use borrow.Author.Tests.{eq-eqb, ne-eqb, lt-ltb, le-ltb}
+use Rattle.bits.specs.Bits.{bitOf, holdsBit, withNumber, setBelow, Least, Without}
+use Rattle.bits.proofs.BitLaws.{bitOf-below, bitOf-zero, bitOf-power, bitOf-or, bitOf-and, holdsBit-more}
+
+-- A set with one more number is not empty.
+pub with-some : (set b : ℕ) → withNumber set b ≡ 0 → ⊥
+with-some set b e =
+    omega (arith, ap (bitOf b) e, bitOf-or b set (2 ^ b), bitOf-power b, bitOf-zero b)
+
+below-next : (b n : ℕ) → (b ≡ n → ⊥) → ltb b (suc n) ≡ ltb b n
+below-next b n d = elim (decLe (suc b) n) [
+  | yes l ↦ rw (lt-ltb b n l, lt-ltb b (suc n) (omega arith))
+  | no l ↦ rw (le-ltb b n (omega arith), le-ltb b (suc n) (omega arith))
+]
+
+-- The numbers below n that pass a test: the set has them and no others, and it is that of the numbers below m where none from m on passes.
+pub set-holds : (n : ℕ) (test : ℕ → Bool) (b : ℕ) → holdsBit b (setBelow n test) ≡ (ltb b n && test b)
+set-holds zero test b = rw (bitOf-zero b, le-ltb b 0 (omega arith))
+set-holds (suc n) test b = go (test n) refl (ℕ-discrete b n) (set-holds n test b)
+  where
+    go : (t : Bool) → test n ≡ t → Dec (b ≡ n) → holdsBit b (setBelow n test) ≡ (ltb b n && test b)
+        → holdsBit b (cond t (withNumber (setBelow n test) n) (setBelow n test)) ≡ (ltb b (suc n) && test b)
+    go true e (yes s) h =
+        holdsBit-more b n (setBelow n test) ∙ rw (eq-eqb b n s, lt-ltb b (suc n) (omega arith), ap test s, e)
+    go true e (no d) h =
+        holdsBit-more b n (setBelow n test) ∙ rw (ne-eqb b n d, h, below-next b n d)
+    go false e (yes s) h = h ∙ rw (ap test s, e, le-ltb b n (omega arith), lt-ltb b (suc n) (omega arith))
+    go false e (no d) h = h ∙ rw (below-next b n d)
+
+pub set-passed : (n m : ℕ) (test : ℕ → Bool) → m ≤ n → ((k : ℕ) → m ≤ k → k < n → test k ≡ false) → setBelow n test ≡ setBelow m test
+set-passed zero m test l none = let e : m ≡ 0 = omega arith in rw e
+set-passed (suc n) m test l none =
+    elim (ℕ-discrete m (suc n)) [
+      | yes e ↦ rw e
+      | no d ↦ rw (none n (omega arith) (omega arith)) (set-passed n m test (omega arith) λ k g h. none k g (omega arith))
+    ]
 
 -- The lowest bit of a number that is not 0: it is there, no bit is below it, and it is within the width.
 abbrev Lowest : ℕ → ℕ → ℕ → Type 0

@@ -1,7 +1,8 @@
 -- Bits of a number, for sets of small numbers.
-use Prim.Native.Nat.{ℕ, zero, suc, _/_, _%_, _<_}
+use Prim.Native.Nat.{ℕ, zero, suc, _/_, _%_, _^_, _<_}
 use mathlib.Core.Path.{_≡_}
-use mathlib.Core.Bool.{Bool}
+use mathlib.Core.Bool.{Bool, cond}
+use lib.Bits.{bitOr}
 use lib.Dec.{eqb}
 
 abbrev pub bitOf : ℕ → ℕ → ℕ
@@ -11,6 +12,14 @@ bitOf (suc b) x = bitOf b (x / 2)
 -- Is b in the set x?
 abbrev pub holdsBit : ℕ → ℕ → Bool
 holdsBit b x = eqb (bitOf b x) 1
+
+-- A set with one more number; and the numbers below n that pass a test.
+abbrev pub withNumber : ℕ → ℕ → ℕ
+withNumber set b = bitOr set (2 ^ b)
+
+abbrev pub setBelow : ℕ → (ℕ → Bool) → ℕ
+setBelow zero test = 0
+setBelow (suc n) test = cond (test n) (withNumber (setBelow n test) n) (setBelow n test)
 
 -- The least number of a set, which is below 64; and a set without one of its numbers.
 pub record Least (set k : ℕ) : Type 0 where

@@ -1,7 +1,7 @@
 // Sets of small numbers, as the bits of one number.
 ghost use mathlib.Core.Path.{_≡_};
-ghost use Prim.Native.Nat.{_<_, _^_};
-ghost use Rattle.bits.specs.Bits.{bitOf, holdsBit, Least, Without};
+ghost use Prim.Native.Nat.{_<_};
+ghost use Rattle.bits.specs.Bits.{bitOf, holdsBit, withNumber, Least, Without};
 
 // Is a number in a set of numbers below 32?
 pub fn has(set: u32, b: u8) -> bool
@@ -13,12 +13,12 @@ pub fn has(set: u32, b: u8) -> bool
     set & (1u32 << b) != 0
 }
 
-// The set of one number.
-pub fn one(b: usize) -> u32
+// A set of numbers below 32 with one more.
+pub fn with(set: u32, b: usize) -> u32
     requires { ⌜ b < 32 ⌝ }
-    ensures { λ r. ⌜ r ≡ 2 ^ b ⌝ }
+    ensures { λ r. ⌜ r ≡ withNumber set b ⌝ }
 {
-    1u32 << b
+    set | (1u32 << b)
 }
 
 // The least number of a set of numbers below 64 that is not empty.

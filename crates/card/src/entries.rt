@@ -1,7 +1,5 @@
-// Refusals 14 and 15: each word entry's layout, and no two entries equal.
+// Refusal 14: each word entry's layout.
 use crate::Card;
-use crate::numbers::eight;
-use crate::numbers::four;
 use crate::numbers::within;
 use octets::all_letters;
 use octets::all_zero;
@@ -10,8 +8,7 @@ use octets::wide;
 ghost use mathlib.Core.Path.{_≡_};
 ghost use Prim.Native.Nat.{_≤_, _<_, _+_};
 ghost use lib.ListN.{length};
-ghost use Rattle.layout.specs.Bytes.{sameBytes};
-ghost use Rattle.layout.specs.Card.{entryLength, entryAt, entryOf, wordCount, entryFits, entriesFit, entryIsNew, entriesDiffer};
+ghost use Rattle.layout.specs.Card.{entryLength, entryAt, wordCount, entryFits, entriesFit};
 ghost use Rattle.card.specs.View.{ViewOf};
 
 fn entry_fits(card: &[u8], view: Card, v: usize) -> bool
@@ -41,48 +38,6 @@ pub fn entries_fit(card: &[u8], view: Card) -> bool
     let mut v = 0;
     while v < words {
         if !entry_fits(card, view, v) {
-            return false;
-        }
-        v += 1;
-    }
-    true
-}
-
-// The 12 bytes as two numbers.
-fn entries_equal(card: &[u8], view: Card, u: usize, v: usize) -> bool
-    requires { ⌜ ViewOf (now card) view × (u < v) × (v < 256) × (entryAt (now card) v + entryLength ≤ length (now card)) ⌝ }
-    ensures { λ r. ⌜ r ≡ sameBytes (entryOf (now (card .entry)) u) (entryOf (now (card .entry)) v) ⌝ }
-{
-    let a = view.entry_at(u);
-    let b = view.entry_at(v);
-    if eight(card, a) != eight(card, b) {
-        return false;
-    }
-    four(card, a + 8) == four(card, b + 8)
-}
-
-fn entry_is_new(card: &[u8], view: Card, v: usize) -> bool
-    requires { ⌜ ViewOf (now card) view × (v < 256) × (entryAt (now card) v + entryLength ≤ length (now card)) ⌝ }
-    ensures { λ r. ⌜ r ≡ entryIsNew (now (card .entry)) v ⌝ }
-{
-    let mut u = 0;
-    while u < v {
-        if entries_equal(card, view, u, v) {
-            return false;
-        }
-        u += 1;
-    }
-    true
-}
-
-pub fn entries_differ(card: &[u8], view: Card) -> bool
-    requires { ⌜ ViewOf (now card) view × (entryAt (now card) (wordCount (now card)) ≤ length (now card)) ⌝ }
-    ensures { λ r. ⌜ r ≡ entriesDiffer (now (card .entry)) ⌝ }
-{
-    let words = view.words;
-    let mut v = 0;
-    while v < words {
-        if !entry_is_new(card, view, v) {
             return false;
         }
         v += 1;

@@ -140,7 +140,7 @@ pub enum Production {
     },
 }
 
-// Refusals 11 to 16 in their order, each over the whole card; 0 where the card is accepted.
+// Refusals 11 to 14 and 16 in their order, each over the whole card; 0 where the card is accepted.
 pub fn card_number(card: &[u8]) -> u64
     ensures { λ r. ⌜ r ≡ cardNumber (now (card .entry)) ⌝ }
 {
@@ -154,15 +154,11 @@ pub fn card_number(card: &[u8]) -> u64
     if !header::lengths_fit(card, view) {
         return 13;
     }
-    // These three look at the whole card whatever the others find: the order of refusals stands here alone.
+    // These two look at the whole card whatever the other finds: the order of refusals stands here alone.
     let fit = entries::entries_fit(card, view);
-    let differ = entries::entries_differ(card, view);
     let table = productions::productions_fit(card, view);
     if !fit {
         return 14;
-    }
-    if !differ {
-        return 15;
     }
     if !table {
         return 16;

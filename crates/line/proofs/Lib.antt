@@ -1,6 +1,7 @@
 pub mod CardLaws
 pub mod LetterLaws
 pub mod WordLaws
+pub mod SlotLaws
 pub mod LookupLaws
 pub mod NumberLaws
 pub mod RefusalLaws

@@ -5,21 +5,18 @@ use native.Mathlib.Omega.{arith}
 use mathlib.Core.Path.{_≡_, refl, sym, _∙_, ap, ap₂}
 use mathlib.Core.Bool.{Bool, true, false, cond}
 use mathlib.Core.List.{List, [], _∷_}
-use mathlib.Core.Option.{some}
 use lib.Dec.{eqb, leb}
 use lib.ListN.{length, drop}
 use borrow.Author.Tests.{eqb-true, leb-true}
 use Rattle.layout.specs.Bytes.{allBytes}
 use Rattle.layout.specs.Refusals.{unless, firstRefusal}
-use Rattle.layout.specs.Card.{maxWords, cardNumber}
-use Rattle.layout.specs.Line.{isLineByte, mostWords, wordsOf, numberOfWord, allKnown}
+use Rattle.layout.specs.Card.{cardNumber}
+use Rattle.layout.specs.Line.{isLineByte, mostWords, wordsOf, allKnown}
 use Rattle.layout.specs.Answers.{inputNumber, wordsIn}
 use Rattle.layout.proofs.Accepting.{AcceptedLine, accepted-line}
 use Rattle.line.specs.declared.Accepted.{Accepted}
 use Rattle.line.specs.Words.{WordStarts}
 use Rattle.line.specs.Accepted.{noPlaces, placesOf, wordsNumber, Verdict, Accepts}
-use Rattle.line.proofs.CardLaws.{words-few}
-use Rattle.line.proofs.LookupLaws.{number-below}
 use Rattle.line.proofs.RefusalLaws.{words-decide}
 use Rattle.line.proofs.WordLaws.{WordEnds, no-bytes, Counted, counted-none, counted-more, counted-all}
 use Rattle.line.proofs.NumberLaws.{sets, Numbering, numbering-on, known-all, numbered-all}
@@ -37,7 +34,7 @@ passing-none {card} s =
       numbering =
           λ h. record {
             all-known = ap (allKnown card) (s .words);
-            numbered = λ e. ap (sets card) (s .words);
+            numbered = ap (sets card) (s .words);
             room = refl;
             zeros = refl;
           };
@@ -53,9 +50,6 @@ passing-more s ends starts noted =
       fits = s .fits ∙ ends .fits ∙ starts .fits;
       numbering = λ h. numbering-on (noted h) starts;
     }
-
-pub number-fits : (card word : List ℕ) {v : ℕ} → cardNumber card ≡ 0 → numberOfWord card word ≡ some v → v < maxWords
-number-fits card word {v} ok e = omega (arith, words-few card ok, number-below card word v e)
 
 -- Whether words are known matters only where they are not too many.
 known-few : (n : ℕ) {a b : Bool} → (n ≤ mostWords → a ≡ b) → wordsNumber n a ≡ wordsNumber n b
@@ -90,8 +84,7 @@ module _ {card line stored : List ℕ} {at n : ℕ} {known : Bool} (ok : cardNum
   stored-is : inputNumber card line ≡ 0 → stored ≡ placesOf card line
   stored-is z =
       let a : AcceptedLine card line = accepted-line card line z in
-      let numbering = s .numbering (omega (arith, all-counted, a .most-words)) in
-      numbered-all numbering h (sym (known-all numbering h) ∙ a .known) all-counted
+      numbered-all (s .numbering (omega (arith, all-counted, a .most-words))) h all-counted
 
   pub passed : {r : Accepted} → Verdict n known stored r → Accepts card line r
   passed v =

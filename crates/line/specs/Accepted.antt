@@ -7,9 +7,9 @@ use mathlib.Core.List.{List, _++_, map}
 use lib.Dec.{eqb}
 use lib.ListN.{replicate}
 use Rattle.layout.specs.Refusals.{firstRefusal}
-use Rattle.layout.specs.Line.{mostWords, numbersOf, wordsRefusals}
+use Rattle.layout.specs.Line.{mostWords, wordsOf, wordsRefusals}
 use Rattle.layout.specs.Answers.{inputNumber, wordsIn}
-use Rattle.places.specs.Places.{onlyWord}
+use Rattle.line.specs.Lookup.{wordSet}
 use Rattle.line.specs.declared.Accepted.{Accepted}
 
 abbrev pub noPlaces : List ℕ
@@ -18,9 +18,9 @@ noPlaces = replicate mostWords 0
 abbrev pub acceptedCount : List ℕ → List ℕ → ℕ
 acceptedCount card line = cond (eqb (inputNumber card line) 0) (wordsIn line) 0
 
--- One word at each place: its number's own set.
+-- At each place all words that are spelled as the line's word there.
 abbrev pub placesOf : List ℕ → List ℕ → List ℕ
-placesOf card line = map onlyWord (numbersOf card line) ++ replicate (mostWords - wordsIn line) 0
+placesOf card line = map (wordSet card) (wordsOf line) ++ replicate (mostWords - wordsIn line) 0
 
 abbrev pub acceptedPlaces : List ℕ → List ℕ → List ℕ
 acceptedPlaces card line = cond (eqb (inputNumber card line) 0) (placesOf card line) noPlaces

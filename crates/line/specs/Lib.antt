@@ -1,3 +1,4 @@
 pub mod Words
+pub mod Slots
 pub mod Lookup
 pub mod Accepted

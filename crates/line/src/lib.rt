@@ -1,13 +1,14 @@
-// A line, accepted or refused: its bytes, its words and their numbers on the card (document 01, "Line and rewriting", and the shift
-// leader's refusals 22, 21, 23 and 24). It is cut into words, each is looked up, and the verdict is given at its end.
+// A line, accepted or refused: its bytes, its words and their numbers on the card (document 01, "Line and rewriting", document 02, Paper
+// 2, and the shift leader's refusals 22, 21, 23 and 24). It is cut into words, each is looked up, and the verdict is given at its end.
 mod cut;
 mod lookup;
+mod slots;
 mod verdict;
 
 use card::Card;
 use card::card_number;
-use lookup::Lookup;
 use places::MOST_WORDS;
+use slots::SLOTS;
 ghost use mathlib.Core.Path.{_≡_};
 ghost use Rattle.layout.specs.Card.{cardNumber};
 ghost use Rattle.line.specs.Accepted.{Accepts};
@@ -26,6 +27,9 @@ pub fn accept_line(card: &[u8], line: &[u8]) -> Accepted
     ensures { λ r. ⌜ Accepts (now (card .entry)) (now (line .entry)) r ⌝ }
 {
     let view = Card::of(card);
+    let mut lows = [0u8; SLOTS];
+    let mut highs = [0u8; SLOTS];
+    slots::range_all(card, view, &mut lows, &mut highs);
     let mut places = [0u32; MOST_WORDS];
     let mut count = 0;
     let mut known = true;
@@ -38,10 +42,10 @@ pub fn accept_line(card: &[u8], line: &[u8]) -> Accepted
             }
         }
         if count < MOST_WORDS {
-            let found = lookup::look_up(card, view, &line[at..end]);
-            match found {
-                Lookup::At(v) => places[count] = bits::one(v),
-                Lookup::Missing => known = false,
+            let set = lookup::look_up(card, view, &lows, &highs, &line[at..end]);
+            places[count] = set;
+            if set == 0 {
+                known = false;
             }
         }
         count += 1;

@@ -18,7 +18,7 @@ use Rattle.layout.specs.Steps.{planRoom}
 use Rattle.layout.specs.Answers.{inputNumber, wordsIn, derivable, refusal, found, outnumber, ReadAnswer, HasDerivation}
 use Rattle.layout.proofs.RefusalLaws.{first-other}
 use Rattle.layout.proofs.Accepting.{accepted-line, input-small}
-use Rattle.layout.proofs.Reading.{no-reading, derivation-read}
+use Rattle.layout.proofs.Reading.{no-reading, read-never-15, derivation-read}
 use Rattle.split.specs.Lines.{linesOf}
 use Rattle.sheet.specs.Sheet.{sheetRefusals, sheetNumber, ownPlanRoom, readNumber, Course, course, sheetCourse}
 use Rattle.sheet.specs.Sheet.{SheetRecord, SheetAnswer, refusedAt, recordsFrom, courseAnswer, sheetAnswer}
@@ -139,6 +139,11 @@ module _ (card sheet : List ℕ) (chartRoom room : ℕ) (plans : List (List Plan
   own-room-enough e =
       never-short card chartRoom (lineAt sheet (sheetAnswer card sheet chartRoom room plans .line))
       (line-has 32 (λ y. absurd (first-other 31 (sheetRefusals card sheet) refl y)) (omega arith) (omega arith) e)
+
+  pub sheet-never-15 : sheetAnswer card sheet chartRoom room plans .number ≡ 15 → ⊥
+  sheet-never-15 e =
+      read-never-15 card (lineAt sheet (sheetAnswer card sheet chartRoom room plans .line)) chartRoom ownPlanRoom
+      (line-has 15 (λ y. absurd (first-other 14 (sheetRefusals card sheet) refl y)) (omega arith) (omega arith) e)
 
   orders-read : (lines : List (List ℕ)) → ((k : List ℕ) → List·Memᴰ k lines → Order card chartRoom k) → AllRead number lines
   orders-read [] h = no-line

@@ -7,10 +7,10 @@ use mathlib.Core.Path.{_≡_, _∙_}
 use borrow.Author.Needs.{needs}
 use Prim.Native.Nat.{ℕ}
 use denote.Ref.{now}
-use Rattle.layout.specs.Card.{markFits, countsFit, lengthsFit, entriesFit, entriesDiffer}
+use Rattle.layout.specs.Card.{markFits, countsFit, lengthsFit, entriesFit}
 use Rattle.layout.proofs.TestLaws.{refused, passed}
 use Rattle.layout.proofs.Accepting.{length-fits}
-use Rattle.card.proofs.Accepted.{header-there, counts-same, number-11, number-12, number-13, number-14, number-15, number-16, number-0}
+use Rattle.card.proofs.Accepted.{header-there, counts-same, number-11, number-12, number-13, number-14, number-16, number-0}
 use Rattle.card.proofs.card_number.Statement.{statement}
 use Rattle.card.proofs.card_number.Tie as tie
 
@@ -33,11 +33,8 @@ counted c = passed (c .before .counts-fit .ensures ∙ counts-same (c .before .b
 measured : (c : tie.Else3) → lengthsFit (card-3 c) ≡ true
 measured c = passed (c .before .lengths-fit .ensures) (c .if3 .left)
 
-fitted : (c : tie.Else4) → entriesFit (card-3 (c .before .before .before .before)) ≡ true
-fitted c = passed (c .before .before .before .entries-fit .ensures) (c .if4 .left)
-
-different : (c : tie.Else5) → entriesDiffer (card-3 (c .before .before .before .before .before)) ≡ true
-different c = passed (c .before .before .before .entries-differ .ensures) (c .if5 .left)
+fitted : (c : tie.Else4) → entriesFit (card-3 (c .before .before .before)) ≡ true
+fitted c = passed (c .before .before .entries-fit .ensures) (c .if4 .left)
 
 mark-fits-requires : tie.Need-mark-fits-requires
 mark-fits-requires c κs = search needs
@@ -71,37 +68,27 @@ entries-fit-requires : tie.Need-entries-fit-requires
 entries-fit-requires c κs =
     let room = length-fits (card-3 c) (measured c) in omega arith
 
-entries-differ-requires : tie.Need-entries-differ-requires
-entries-differ-requires c κs =
-    let room = length-fits (card-3 (c .before)) (measured (c .before)) in omega arith
-
 productions-fit-requires : tie.Need-productions-fit-requires
 productions-fit-requires c κs =
-    let room = length-fits (card-3 (c .before .before)) (measured (c .before .before)) in omega arith
+    let room = length-fits (card-3 (c .before)) (measured (c .before)) in omega arith
 
 returns-4 : tie.Need-returns-4
 returns-4 c =
-    let on = c .before .before .before .before in
+    let on = c .before .before .before in
     number-14 (card-3 on) (marked (on .before .before .before .before .before)) (counted (on .before .before)) (measured on)
-    (refused (c .before .before .before .entries-fit .ensures) (c .if4 .taken))
+    (refused (c .before .before .entries-fit .ensures) (c .if4 .taken))
 
 returns-5 : tie.Need-returns-5
 returns-5 c =
-    let on = c .before .before .before .before .before in
-    number-15 (card-3 on) (marked (on .before .before .before .before .before)) (counted (on .before .before)) (measured on)
-    (fitted (c .before)) (refused (c .before .before .before .entries-differ .ensures) (c .if5 .taken))
+    let on = c .before .before .before .before in
+    number-16 (card-3 on) (marked (on .before .before .before .before .before)) (counted (on .before .before)) (measured on)
+    (fitted (c .before)) (refused (c .before .before .productions-fit .ensures) (c .if5 .taken))
 
 returns-6 : tie.Need-returns-6
 returns-6 c =
-    let on = c .before .before .before .before .before .before in
-    number-16 (card-3 on) (marked (on .before .before .before .before .before)) (counted (on .before .before)) (measured on)
-    (fitted (c .before .before)) (different (c .before)) (refused (c .before .before .before .productions-fit .ensures) (c .if6 .taken))
-
-returns-7 : tie.Need-returns-7
-returns-7 c =
-    let on = c .before .before .before .before .before .before in
+    let on = c .before .before .before .before in
     number-0 (card-3 on) (marked (on .before .before .before .before .before)) (counted (on .before .before)) (measured on)
-    (fitted (c .before .before)) (different (c .before)) (passed (c .before .before .before .productions-fit .ensures) (c .if6 .left))
+    (fitted (c .before)) (passed (c .before .before .productions-fit .ensures) (c .if5 .left))
 
 pub card-number-spec : {M : Type 1} → statement M
 card-number-spec =
@@ -115,9 +102,7 @@ card-number-spec =
     lengths-fit-requires
     returns-3
     entries-fit-requires
-    entries-differ-requires
     productions-fit-requires
     returns-4
     returns-5
-    returns-6
-    returns-7)
+    returns-6)

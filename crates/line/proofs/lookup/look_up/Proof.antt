@@ -1,153 +1,89 @@
--- No entry before `next` is the word; while its bytes are compared, the entry at `here` agrees with the word up to `i`.
--- Another length or a mismatch passes the entry over, and the end of the word has found it.
-use Prim.Native.Nat.{ℕ, _-_}
+-- At the loop, the equal entries below `from` are in the set; each turn takes the next one, and goes on after it. No equal entry stands
+-- outside the range of the word's slot.
+use Prim.Native.Nat.{_-_}
 use native.Mathlib.Omega.{arith}
-use mathlib.Core.Path.{_≡_, sym, _∙_, ap, subst}
-use mathlib.Core.Logic.{⊎-elim}
 use borrow.Author.Needs.{needs}
-use lib.ListN.{length}
-use Rattle.layout.specs.Bytes.{byteAt}
-use Rattle.layout.specs.Card.{entryAt, spellingLength}
-use Rattle.layout.proofs.ViewLaws.{header-most}
-use Rattle.card.proofs.Accepted.{view-entry}
-use Rattle.line.proofs.LookupLaws.{Looking, looking-first, Placed, placed-nowhere, Comparing, Turn}
-use Rattle.line.proofs.LookupLaws.{turn-few, turn-inside, turn-other, comparing-first, byte-inside}
-use Rattle.line.proofs.LookupLaws.{comparing-on, other-byte, all-bytes}
+use Rattle.line.proofs.CardLaws.{words-few}
+use Rattle.line.proofs.LookupLaws.{Inside, slot-inside, Gathered, gathered-none, gathered-all, gathered-on, gathered-more}
 use Rattle.line.proofs.lookup.look_up.Statement.{statement}
 use Rattle.line.proofs.lookup.look_up.Tie as tie
 
 abbrev Inv-loop : tie.InvT-loop
-Inv-loop card view word words next here entry i₀ i = Comparing card word here i
+Inv-loop card view lows highs word h to from₀ set₀ from set = Gathered card word to from set
 
 abbrev μ-loop : tie.MeasureT-loop
-μ-loop card view word words next here entry i₀ i = length word - i
+μ-loop card view lows highs word h to from₀ set₀ from set = to - from
 
-abbrev Inv-entry : tie.InvT-entry
-Inv-entry card view word words next₀ next = Looking card word next
+shared-slice-read-slot : tie.Need-shared-slice-read-slot Inv-loop μ-loop
+shared-slice-read-slot c = c .before .before .before .pre .3
 
-abbrev μ-entry : tie.MeasureT-entry
-μ-entry card view word words next₀ next = words - next
+sub-slot : tie.Need-sub-slot Inv-loop μ-loop
+sub-slot c = c .before .before .before .pre .3
 
-entry-holds : tie.Need-entry-holds Inv-loop μ-loop Inv-entry μ-entry
-entry-holds c = let a = c .before .before .args in looking-first (a .card .now) (a .word .now)
+shared-slice-read-slot-2 : tie.Need-shared-slice-read-slot-2 Inv-loop μ-loop
+shared-slice-read-slot-2 c = omega (arith, c .before .before .before .before .pre .3)
 
--- What a turn knows of its entry.
-turn : (c : tie.Else1 Inv-loop μ-loop Inv-entry μ-entry)
-    → let a = c .before .before .before .before .args in Turn (a .card .now) (a .word .now) (c .before .entry .next)
-turn c =
-    let start = c .before .before .before .before in
-    record {
-      accepted = start .pre .0;
-      counted = omega (arith, start .pre .1 .words, c .before .entry .inv .within, c .if1 .left);
-      looking = c .before .entry .inv;
-    }
+slot-requires : tie.Need-slot-requires Inv-loop μ-loop
+slot-requires c κs = search needs
 
-add-next : tie.Need-add-next Inv-loop μ-loop Inv-entry μ-entry
-add-next c = omega (arith, turn-few (turn c))
+element-copy-out-wide : tie.Need-element-copy-out-wide Inv-loop μ-loop
+element-copy-out-wide c = c .slot .ensures .1
 
-entry-at-requires : tie.Need-entry-at-requires Inv-loop μ-loop Inv-entry μ-entry
-entry-at-requires c κs = (c .before .before .before .before .pre .1 .shortHeader, omega (arith, turn-few (turn c)))
+wide-requires : tie.Need-wide-requires Inv-loop μ-loop
+wide-requires c κs = search needs
 
--- Where the entry stands, and its length byte.
-place : (c : tie.After-entry-at Inv-loop μ-loop Inv-entry μ-entry)
-    → c .entry-at .result ≡ entryAt (c .before .before .before .before .before .args .card .now) (c .before .before .entry .next)
-place c =
-    c .entry-at .ensures ∙ view-entry (c .before .before .before .before .before .pre .1) (c .before .before .entry .next)
+element-copy-out-wide-2 : tie.Need-element-copy-out-wide-2 Inv-loop μ-loop
+element-copy-out-wide-2 c = c .before .before .slot .ensures .1
 
-size : (c : tie.After-wide Inv-loop μ-loop Inv-entry μ-entry)
-    → let at : tie.After-entry-at Inv-loop μ-loop Inv-entry μ-entry = c .before .before in
-    c .wide .result ≡ spellingLength (at .before .before .before .before .before .args .card .now) (at .before .before .entry .next)
-size c =
-    let at : tie.After-entry-at Inv-loop μ-loop Inv-entry μ-entry = c .before .before in
-    c .wide .ensures .0 ∙ ap (byteAt (at .before .before .before .before .before .args .card .now)) (place at)
+wide-requires-2 : tie.Need-wide-requires-2 Inv-loop μ-loop
+wide-requires-2 c κs = search needs
 
-shared-slice-read-wide : tie.Need-shared-slice-read-wide Inv-loop μ-loop Inv-entry μ-entry
-shared-slice-read-wide c = omega (arith, place (c .before), turn-inside (turn (c .before .before)))
+-- The range of the word's slot.
+inside : (c : tie.After-wide2 Inv-loop μ-loop)
+    → let a = c .before .before .before .before .before .before .before .before .before .args in
+    Inside (a .card .now) (a .word .now) (c .wide2 .result) (c .before .before .wide .result)
+inside c =
+    let h = c .before .before .before .before in
+    let start = h .before .before .before .before .before in
+    slot-inside (start .args .word .now) (start .pre .2) (h .slot .ensures .0) (c .wide2 .ensures .0) (c .before .before .wide .ensures .0)
 
-wide-requires : tie.Need-wide-requires Inv-loop μ-loop Inv-entry μ-entry
-wide-requires c κs = tt
+loop-holds : tie.Need-loop-holds Inv-loop μ-loop
+loop-holds c = gathered-none (inside c)
 
-entry-less : tie.Need-entry-less Inv-loop μ-loop Inv-entry μ-entry
-entry-less c =
+next-equal-requires : tie.Need-next-equal-requires Inv-loop μ-loop
+next-equal-requires c κs =
+    let on = c .before .before in
+    let start = on .before .before .before .before .before .before .before .before .before in
+    (start .pre .0, start .pre .1, c .before .loop .inv .within, inside on .within)
+
+returns : tie.Need-returns Inv-loop μ-loop
+returns c =
+    gathered-all (inside (c .before .before .before .before))
+    (gathered-on (c .before .before .before .loop .inv) (c .before .next-equal .ensures)) (omega (arith, c .if1 .taken))
+
+with-requires : tie.Need-with-requires Inv-loop μ-loop
+with-requires c κs =
     let on = c .before .before .before .before in
-    omega (arith, turn on .counted, on .before .before .before .before .pre .1 .words)
+    let start = on .before .before .before .before .before .before .before .before .before in
+    omega (arith, inside on .within, words-few (start .args .card .now) (start .pre .0), c .if1 .left)
 
-entry-again : tie.Need-entry-again Inv-loop μ-loop Inv-entry μ-entry
-entry-again c = turn-other (turn (c .before .before .before .before)) (size (c .before)) (omega (arith, c .if2 .taken))
+add-from : tie.Need-add-from Inv-loop μ-loop
+add-from c =
+    let on = c .before .before .before .before .before in
+    let start = on .before .before .before .before .before .before .before .before .before in
+    omega (arith, inside on .within, words-few (start .args .card .now) (start .pre .0), c .before .if1 .left)
 
-loop-holds : tie.Need-loop-holds Inv-loop μ-loop Inv-entry μ-entry
-loop-holds c = comparing-first (turn (c .before .before .before .before)) (size (c .before)) (omega (arith, c .if2 .left))
+loop-less : tie.Need-loop-less Inv-loop μ-loop
+loop-less c = omega (arith, c .before .before .next-equal .ensures .after, c .before .if1 .left)
 
--- The same while its bytes are compared.
-turn-on : (c : tie.At-loop Inv-loop μ-loop Inv-entry μ-entry)
-    → let e : tie.Else1 Inv-loop μ-loop Inv-entry μ-entry = c .before .before .before .before .before in
-    let a = e .before .before .before .before .args in Turn (a .card .now) (a .word .now) (e .before .entry .next)
-turn-on c = turn (c .before .before .before .before .before)
-
-place-on : (c : tie.At-loop Inv-loop μ-loop Inv-entry μ-entry)
-    → let e : tie.After-entry-at Inv-loop μ-loop Inv-entry μ-entry = c .before .before .before .before in
-    e .entry-at .result ≡ entryAt (e .before .before .before .before .before .args .card .now) (e .before .before .entry .next)
-place-on c = place (c .before .before .before .before)
-
-add-if3 : tie.Need-add-if3 Inv-loop μ-loop Inv-entry μ-entry
-add-if3 c =
-    let card = c .before .before .before .before .before .before .before .before .before .before .args .card .now in
-    omega (arith, place-on (c .before), turn-few (turn-on (c .before)), header-most card)
-
-add-if3-2 : tie.Need-add-if3-2 Inv-loop μ-loop Inv-entry μ-entry
-add-if3-2 c =
-    let card-size = c .before .before .before .before .before .before .before .before .before .before .good .0 .0 in
-    omega (arith, place-on (c .before), byte-inside (turn-on (c .before)) (c .before .loop .inv) (c .loop-test .taken), card-size)
-
-shared-slice-read-if3 : tie.Need-shared-slice-read-if3 Inv-loop μ-loop Inv-entry μ-entry
-shared-slice-read-if3 c =
-    let at = c .before .before in
-    omega (arith, place-on at, byte-inside (turn-on at) (at .loop .inv) (c .before .loop-test .taken))
-
-shared-slice-read-if3-2 : tie.Need-shared-slice-read-if3-2 Inv-loop μ-loop Inv-entry μ-entry
-shared-slice-read-if3-2 c = c .before .before .loop-test .taken
-
-entry-less-2 : tie.Need-entry-less-2 Inv-loop μ-loop Inv-entry μ-entry
-entry-less-2 c =
-    let at = c .before .before .before .before in
-    let start = at .before .before .before .before .before .before .before .before .before in
-    omega (arith, turn-on at .counted, start .pre .1 .words)
-
-entry-again-2 : tie.Need-entry-again-2 Inv-loop μ-loop Inv-entry μ-entry
-entry-again-2 c =
-    let at = c .before .before .before .before in
-    let t = turn-on at in
-    other-byte t (at .loop .inv) (c .before .before .before .loop-test .taken) (rw (place-on at) at (c .if3 .taken))
-
-add-i : tie.Need-add-i Inv-loop μ-loop Inv-entry μ-entry
-add-i c = search needs
-
-loop-less : tie.Need-loop-less Inv-loop μ-loop Inv-entry μ-entry
-loop-less c = omega (arith, c .before .before .before .loop-test .taken)
-
-loop-again : tie.Need-loop-again Inv-loop μ-loop Inv-entry μ-entry
+loop-again : tie.Need-loop-again Inv-loop μ-loop
 loop-again c =
-    let at = c .before .before .before .before in
-    comparing-on (turn-on at) (at .loop .inv) (c .before .before .before .loop-test .taken) (rw (place-on at) at (c .if3 .left))
+    let at = c .before .before .before .before .loop in
+    rw (c .with .ensures)
+    (gathered-more (at .inv) (c .before .before .next-equal .ensures) (omega arith) (omega (arith, c .before .if1 .left)))
 
--- The place that the loop is left with: past the entries, or at the entry that was found.
-placed : (c : tie.Joined1 Inv-loop μ-loop Inv-entry μ-entry)
-    → let a = c .before .before .before .before .args in Placed (a .card .now) (a .word .now) (c .if1 .at)
-placed c =
-    let start = c .before .before .before .before in
-    let At : ℕ → Type 0 = λ at. Placed (start .args .card .now) (start .args .word .now) at in
-    ⊎-elim
-    (λ w. subst At (w .0 .taken ∙ sym (w .2)) (placed-nowhere (c .before .entry .inv) (w .0 .taken ∙ start .pre .1 .words)))
-    (λ w. subst At (sym (w .8)) (all-bytes (turn (record { before = c .before; if1 = w .0 })) (w .5 .inv) (w .6 .left)))
-    (c .if1 .came)
-
-returns : tie.Need-returns Inv-loop μ-loop Inv-entry μ-entry
-returns c = sym (placed (c .before) .miss (c .if4 .taken ∙ c .before .before .before .before .before .pre .1 .words))
-
-returns-2 : tie.Need-returns-2 Inv-loop μ-loop Inv-entry μ-entry
-returns-2 c =
-    let p = placed (c .before) in
-    sym (p .hit (omega (arith, p .within, c .if4 .left, c .before .before .before .before .before .pre .1 .words)))
+returns-2 : tie.Need-returns-2 Inv-loop μ-loop
+returns-2 c = gathered-all (inside (c .before .before)) (c .before .loop .inv) (omega (arith, c .loop-test .left))
 
 pub look-up-spec : {M : Type 1} → statement M
 look-up-spec =
@@ -155,24 +91,19 @@ look-up-spec =
     (tie.spec
     Inv-loop
     μ-loop
-    Inv-entry
-    μ-entry
-    entry-holds
-    add-next
-    entry-at-requires
-    shared-slice-read-wide
+    shared-slice-read-slot
+    sub-slot
+    shared-slice-read-slot-2
+    slot-requires
+    element-copy-out-wide
     wide-requires
-    entry-less
-    entry-again
+    element-copy-out-wide-2
+    wide-requires-2
     loop-holds
-    add-if3
-    add-if3-2
-    shared-slice-read-if3
-    shared-slice-read-if3-2
-    entry-less-2
-    entry-again-2
-    add-i
+    next-equal-requires
+    returns
+    with-requires
+    add-from
     loop-less
     loop-again
-    returns
     returns-2)
