@@ -98,4 +98,10 @@ impl Calls for ChartParser {
     }
 }
 
-pub const BOTH: [&dyn Calls; 2] = [&Library, &ChartParser];
+/// Who is compared with the slow implementations.
+pub type Who = &'static [&'static dyn Calls];
+
+pub const BOTH: Who = &[&Library, &ChartParser];
+
+/// A comparison of these says nothing about the library.
+pub const RIVAL_ONLY: Who = &[&ChartParser];

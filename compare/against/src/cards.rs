@@ -1,5 +1,6 @@
 //! Cards drawn at random.
 
+use crate::alike;
 use independent::random::Random;
 use independent::write::{CardText, tomato};
 
@@ -11,15 +12,44 @@ struct Counts {
     productions: usize,
 }
 
-/// Dense cards make many items: their lines are kept short more often than not.
 pub struct Drawn {
     pub text: CardText,
-    pub dense: bool,
+    /// Dense cards make many items.
+    dense: bool,
+    /// The most entries that are spelled alike.
+    most_alike: usize,
+}
+
+impl Drawn {
+    /// A length for lines, which are kept short more often than not where the card is dense. Where
+    /// several words have one spelling, most are so short that all their lists of words can be
+    /// asked about.
+    pub fn most_words(&self, random: &mut Random) -> usize {
+        let most = match (self.dense, random.below(30)) {
+            (true, 0) => 24,
+            (true, _) => 8,
+            (false, 0..=9) => 24,
+            (false, _) => 10,
+        };
+        if random.once_in(5) {
+            return most;
+        }
+        let short = match self.most_alike {
+            1 => 24,
+            2 => 7,
+            3 => 5,
+            4 | 5 => 4,
+            6..=8 => 3,
+            9..=16 => 2,
+            _ => random.between(1, 2),
+        };
+        most.min(short)
+    }
 }
 
 pub fn draw(random: &mut Random) -> Drawn {
     let dense = random.once_in(12);
-    let text = if dense {
+    let mut text = if dense {
         crowded(random)
     } else {
         match random.below(8) {
@@ -32,7 +62,17 @@ pub fn draw(random: &mut Random) -> Drawn {
             _ => crossing(random),
         }
     };
-    Drawn { text, dense }
+    if random.once_in(2) {
+        let entries = alike::entries(text.words.len(), random);
+        text.words = spellings(random, entries);
+        alike::share(&mut text, random);
+    }
+    let most_alike = alike::most_alike(&text);
+    Drawn {
+        text,
+        dense,
+        most_alike,
+    }
 }
 
 fn any_counts(random: &mut Random) -> Counts {

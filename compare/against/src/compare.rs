@@ -1,9 +1,10 @@
 //! All comparisons that one card and one line allow.
 
-use crate::calls::{BOTH, Calls, ChartParser};
+use crate::calls::{Calls, ChartParser, Who};
 use crate::damage;
 use crate::disagreement::Disagreement;
-use crate::expected::{Input, Items, Scratch};
+use crate::edges::Edge;
+use crate::expected::{FULL_ROOM, Input, Items, PLAN_ROOM, Scratch};
 use crate::room::Room;
 use crate::tally::Tally;
 use crate::verify;
@@ -17,7 +18,8 @@ pub struct Effort {
     /// Room lengths beside the one that suffices.
     pub other_rooms: usize,
     pub damaged_plans: usize,
-    /// Trials of a production that the rewriting recognizer may make.
+    /// Trials of a production that the rewriting recognizer may make for a line, over all its lists
+    /// of words.
     pub recognizer_work: usize,
     /// Most items for which the naive closure is made.
     pub closure_items: usize,
@@ -27,6 +29,7 @@ pub struct Effort {
 }
 
 pub struct Comparison<'a> {
+    pub who: Who,
     pub random: &'a mut Random,
     pub scratch: &'a mut Scratch,
     pub tally: &'a mut Tally,
@@ -36,7 +39,7 @@ pub struct Comparison<'a> {
 pub type Outcome = Result<(), Box<Disagreement>>;
 
 /// Puts a verdict together with the bytes it is about.
-fn blame(
+pub fn blame(
     calls: &dyn Calls,
     input: &Input,
     plan: &[u8],
@@ -57,6 +60,22 @@ impl Comparison<'_> {
         }
     }
 
+    /// The same, where the number that Read has to answer, and the items, are known beforehand.
+    pub fn known(&mut self, edge: &Edge) -> Outcome {
+        self.run(&edge.card, &edge.line)?;
+        let input = Input::new(&edge.card, &edge.line);
+        let found = match &input.line {
+            Err(number) => (*number, 0),
+            Ok(line) => {
+                let items = Items::of(&input, self.scratch);
+                let number = items.read_number(line.len(), FULL_ROOM, PLAN_ROOM);
+                (number, items.count())
+            }
+        };
+        let verdict = verify::expect("number and items", found, (edge.number, edge.items));
+        blame(&ChartParser, &input, &[], [None; 3], verdict)
+    }
+
     /// The card check, and Name for every word and for numbers that no word has.
     fn card(&mut self, input: &Input) -> Outcome {
         if let Err(number) = input.card {
@@ -75,7 +94,7 @@ impl Comparison<'_> {
             1 << 63,
             usize::MAX,
         ];
-        for calls in BOTH {
+        for &calls in self.who {
             let report = |verdict| blame(calls, input, &[], [None; 3], verdict);
             report(verify::card_check(calls, input))?;
             for word in (0..words).chain(beyond) {
@@ -86,11 +105,12 @@ impl Comparison<'_> {
     }
 
     fn refused(&mut self, input: &Input) -> Outcome {
-        let number = input.words.as_ref().err().copied().unwrap_or(0);
+        let number = input.line.as_ref().err().copied().unwrap_or(0);
         self.tally.number(number);
+        self.tally.shared.unknown_words += u64::from(number == 24 && input.shares_spellings());
         let mut chart = Room::new(self.random.below(200), self.random);
         let mut plan = Room::new(self.random.below(200), self.random);
-        for calls in BOTH {
+        for &calls in self.who {
             let rooms = [Some(chart.length()), Some(plan.length()), None];
             let verdict = verify::refused_read(calls, input, &mut chart, &mut plan);
             blame(calls, input, &[], rooms, verdict)?;
@@ -112,12 +132,18 @@ impl Comparison<'_> {
         for plan in &plans {
             self.plan(input, plan)?;
         }
+        if input.has_several_lists() {
+            self.count_lists(input, plans.first());
+        }
+        if let Some(plan) = plans.first() {
+            self.other_words(input, plan)?;
+        }
         self.damaged_plans(input, plans.first())
     }
 
     /// The item set against the naive closure, where that is affordable.
     pub fn closure(&mut self, input: &Input, items: &Items) -> Outcome {
-        let (Some((card, words)), Some(held)) = (input.accepted(), &items.held) else {
+        let (Some((card, line)), Some(held)) = (input.accepted(), &items.held) else {
             return Ok(());
         };
         let most = self.effort.closure_items;
@@ -125,7 +151,7 @@ impl Comparison<'_> {
             return Ok(());
         }
         self.tally.charts_closed += 1;
-        let closed = closure::derivable(card, words, most);
+        let closed = closure::derivable(card, line, most);
         let mut keys: Vec<u64> = closed
             .into_iter()
             .flatten()
@@ -146,24 +172,21 @@ impl Comparison<'_> {
 
     /// Reading or no reading against the definition of rewriting, where that is affordable.
     pub fn recognizer(&mut self, input: &Input, items: &Items) -> Outcome {
-        let (Some((card, words)), Some(held)) = (input.accepted(), &items.held) else {
+        let (Some((card, line)), Some(held)) = (input.accepted(), &items.held) else {
             return Ok(());
         };
-        self.tally.recognizer_asked += 1;
-        let verdict = match rewriting::derives(card, words, self.effort.recognizer_work) {
-            Err(rewriting::TooMuchWork) => {
-                self.tally.recognizer_gave_up += 1;
-                Ok(())
-            }
-            Ok(derives) if derives == held.has_reading => Ok(()),
-            Ok(derives) => Err(format!("reading {}, rewriting {derives}", held.has_reading)),
+        let found = rewriting::derives(card, line, self.effort.recognizer_work).ok();
+        self.tally.recognizer(found, input.has_several_lists());
+        let verdict = match found {
+            Some(found) => verify::expect("reading", held.has_reading, found.derives),
+            None => Ok(()),
         };
         blame(&ChartParser, input, &[], [None; 3], verdict)
     }
 
     /// Read with several room lengths; the plans that came of it.
     fn reads(&mut self, input: &Input, items: &Items) -> Result<Vec<Vec<u8>>, Box<Disagreement>> {
-        let words = input.accepted().map_or(1, |(_, words)| words.len());
+        let words = input.accepted().map_or(1, |(_, line)| line.len());
         let least_plan = 4 * (2 * words - 1);
         let mut lengths = vec![(
             16 * items.count() + self.random.below(34),
@@ -183,7 +206,7 @@ impl Comparison<'_> {
             self.tally.number(number);
             let mut chart = Room::new(chart, self.random);
             let mut plan = Room::new(plan, self.random);
-            for calls in BOTH {
+            for &calls in self.who {
                 chart.restore();
                 plan.restore();
                 let rooms = [Some(chart.length()), Some(plan.length()), None];
@@ -198,15 +221,15 @@ impl Comparison<'_> {
     }
 
     fn damaged_plans(&mut self, input: &Input, plan: Option<&Vec<u8>>) -> Outcome {
-        let Some((card, words)) = input.accepted() else {
+        let Some((card, line)) = input.accepted() else {
             return Ok(());
         };
         for _ in 0..self.effort.damaged_plans {
             let damaged = match plan {
                 Some(plan) if !self.random.once_in(6) => {
-                    damage::plan(plan, self.random, &card.productions, words.len())
+                    damage::plan(plan, self.random, &card.productions, line.len())
                 }
-                _ => damage::random_plan(self.random, card.productions.len(), words.len()),
+                _ => damage::random_plan(self.random, card.productions.len(), line.len()),
             };
             self.plan(input, &damaged)?;
         }
@@ -222,7 +245,7 @@ impl Comparison<'_> {
         let count = replayed.as_ref().map_or(0, Vec::len);
         let enough = 2 * count + self.random.below(4);
         let lengths = [enough, around(self.random, 2 * count, 2)];
-        for calls in BOTH {
+        for &calls in self.who {
             let verdict = verify::check(calls, input, plan, number);
             blame(calls, input, plan, [None; 3], verdict)?;
         }
@@ -231,7 +254,7 @@ impl Comparison<'_> {
                 self.tally.number(33);
             }
             let mut room = Room::new(length, self.random);
-            for calls in BOTH {
+            for &calls in self.who {
                 room.restore();
                 let verdict = verify::pairs(calls, input, plan, &replayed, &mut room);
                 blame(calls, input, plan, [None, None, Some(length)], verdict)?;

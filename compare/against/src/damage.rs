@@ -1,10 +1,10 @@
 //! Damage to cards, lines and plans.
 
-use independent::card::Production;
+use independent::card::{Card, Production};
 use independent::random::Random;
 use independent::write::CardText;
 
-/// One to three faults.
+/// One to three faults, or what looks like one: that two entries are equal is none.
 pub fn card(card: &mut Vec<u8>, random: &mut Random) {
     for _ in 0..random.between(1, 3) {
         card_fault(card, random);
@@ -197,6 +197,32 @@ fn near(random: &mut Random, productions: &[Production], number: u8) -> u8 {
     } else {
         *random.pick(&others) as u8
     }
+}
+
+/// A plan made from a right one, in which one word step names another production of the same
+/// nonterminal: one for another word, which is spelled alike or is not. None if there is no such
+/// step.
+pub fn other_word(plan: &[u8], random: &mut Random, card: &Card, alike: bool) -> Option<Vec<u8>> {
+    let spelling = |word: u8| &card.words[usize::from(word)];
+    let fits = |old: Production, new: Production| match (old, new) {
+        (Production::Word { head, word }, Production::Word { head: h, word: w }) => {
+            head == h && word != w && (spelling(word) == spelling(w)) == alike
+        }
+        _ => false,
+    };
+    let mut choices = Vec::new();
+    for at in (0..plan.len()).step_by(4) {
+        let old = card.productions[usize::from(plan[at])];
+        let others = (0..card.productions.len()).filter(|&new| fits(old, card.productions[new]));
+        choices.extend(others.map(|new| (at, new as u8)));
+    }
+    if choices.is_empty() {
+        return None;
+    }
+    let (at, production) = *random.pick(&choices);
+    let mut plan = plan.to_vec();
+    plan[at] = production;
+    Some(plan)
 }
 
 /// A plan of about the right length with small numbers, not made from any derivation.

@@ -4,11 +4,14 @@
 
 use independent::card::Card;
 use independent::chart;
-use independent::line;
+use independent::line::{self, Spelled};
 use independent::replay::{Replayed, replay};
 
 /// Room for every chart that can be held.
-const FULL_ROOM: usize = 16 * 65_535;
+pub const FULL_ROOM: usize = 16 * 65_535;
+
+/// Enough for the plan of any line.
+pub const PLAN_ROOM: usize = 188;
 
 /// A buffer for charts, kept from case to case.
 pub struct Scratch {
@@ -28,38 +31,56 @@ pub struct Input<'a> {
     pub card_bytes: &'a [u8],
     pub line_bytes: &'a [u8],
     pub card: Result<Card, u16>,
-    /// The words, or the refusal of card or line.
-    pub words: Result<Vec<u8>, u16>,
+    /// The line place by place, or the refusal of card or line.
+    pub line: Result<Vec<Spelled>, u16>,
 }
 
 impl<'a> Input<'a> {
     pub fn new(card_bytes: &'a [u8], line_bytes: &'a [u8]) -> Self {
         let card = Card::accept(card_bytes);
-        let words = match &card {
-            Ok(card) => line::words(card, line_bytes),
+        let line = match &card {
+            Ok(card) => line::places(card, line_bytes),
             Err(number) => Err(*number),
         };
         Input {
             card_bytes,
             line_bytes,
             card,
-            words,
+            line,
         }
     }
 
-    /// Card and words, where both are accepted.
-    pub fn accepted(&self) -> Option<(&Card, &[u8])> {
-        match (&self.card, &self.words) {
-            (Ok(card), Ok(words)) => Some((card, words)),
+    /// Card and line, where both are accepted.
+    pub fn accepted(&self) -> Option<(&Card, &[Spelled])> {
+        match (&self.card, &self.line) {
+            (Ok(card), Ok(line)) => Some((card, line)),
             _ => None,
         }
     }
 
+    /// Whether both are accepted and a place has several words, so that there are several lists of
+    /// words whose spellings are the line's.
+    pub fn has_several_lists(&self) -> bool {
+        let several = |place: &Spelled| place.words.len() > 1;
+        self.line
+            .as_ref()
+            .is_ok_and(|line| line.iter().any(several))
+    }
+
+    /// Whether the card is accepted and two of its words are spelled alike.
+    pub fn shares_spellings(&self) -> bool {
+        let Ok(card) = &self.card else {
+            return false;
+        };
+        let shared = |spelling: &Vec<u8>| card.spelled(spelling).len() > 1;
+        card.words.iter().any(shared)
+    }
+
     /// Check's number, and the replayed plan if that is 0.
     pub fn replayed(&self, plan: &[u8]) -> Result<Replayed, u16> {
-        let words = self.words.as_ref().map_err(|number| *number)?;
+        let line = self.line.as_ref().map_err(|number| *number)?;
         let card = self.card.as_ref().map_err(|number| *number)?;
-        replay(card, words, plan).ok_or(34)
+        replay(card, line, plan).ok_or(34)
     }
 }
 
@@ -82,7 +103,7 @@ pub fn key(record: &[u8; 16]) -> u64 {
 
 impl Items {
     pub fn of(input: &Input, scratch: &mut Scratch) -> Self {
-        let mut plan = [0; 188];
+        let mut plan = [0; PLAN_ROOM];
         let answer = chart::read(
             input.card_bytes,
             input.line_bytes,

@@ -1,6 +1,7 @@
 //! Comparing the library under test, and the independent chart parser, with the slow
 //! implementations.
 
+pub mod alike;
 pub mod calls;
 pub mod cards;
 pub mod compare;
@@ -11,5 +12,6 @@ pub mod expected;
 pub mod lines;
 pub mod room;
 pub mod sheet;
+mod spellings;
 pub mod tally;
 pub mod verify;

@@ -1,8 +1,10 @@
 //! Random comparison.
 //!
-//! `against [--cases N] [--seed S] [--only CASE]`; the last runs one case of a seed again.
+//! `against [--cases N] [--seed S] [--only CASE] [--rival-only]`; `--only` runs one case of a seed
+//! again, `--rival-only` compares the independent chart parser and leaves the library out.
 //! A disagreement is printed with the bytes that show it, and the exit status is 1.
 
+use against::calls::{BOTH, RIVAL_ONLY, Who};
 use against::cards;
 use against::compare::{Comparison, Effort, Outcome};
 use against::damage;
@@ -24,7 +26,7 @@ const CASES_A_SHEET: u64 = 16;
 const EFFORT: Effort = Effort {
     other_rooms: 2,
     damaged_plans: 4,
-    recognizer_work: 8_000,
+    recognizer_work: 30_000,
     closure_items: 40,
     sheet_rooms: 2,
 };
@@ -45,14 +47,17 @@ fn main() -> ExitCode {
     };
     println!("seed {}", options.seed);
     let start = Instant::now();
-    let mut tally = Tally::default();
     let mut scratch = Scratch::default();
-    if let Err(disagreement) = edge_cases(&mut tally, &mut scratch) {
+    // Edges are counted by themselves: what has to be met has to be met by random cases.
+    let mut edges = Tally::default();
+    if let Err(disagreement) = edge_cases(options.who, &mut edges, &mut scratch) {
         println!("disagreement in an edge case\n{disagreement}");
         return ExitCode::FAILURE;
     }
+    println!("edges: {edges}");
+    let mut tally = Tally::default();
     for case in options.range() {
-        if let Err(disagreement) = run(options.seed, case, &mut tally, &mut scratch) {
+        if let Err(disagreement) = run(&options, case, &mut tally, &mut scratch) {
             println!(
                 "disagreement: seed {}, case {case}\n{disagreement}",
                 options.seed
@@ -62,45 +67,59 @@ fn main() -> ExitCode {
         tally.cases += 1;
     }
     println!("{tally}; {:.1} s", start.elapsed().as_secs_f64());
+    let strays = [&edges, &tally].map(Tally::strays).concat();
+    if !strays.is_empty() {
+        println!("numbers that should not occur: {strays:?}");
+        return ExitCode::FAILURE;
+    }
+    if options.expects_all() {
+        return seen_all(&tally);
+    }
+    ExitCode::SUCCESS
+}
+
+/// A run of the usual length has to meet everything that it is for.
+fn seen_all(tally: &Tally) -> ExitCode {
     let missing = tally.missing();
-    if options.expects_all_refusals() && missing.iter().any(|list| !list.is_empty()) {
-        println!("refusals that never occurred, of calls, sheets and later lines: {missing:?}");
+    if !missing.is_empty() {
+        println!("never occurred: {}", missing.join(", "));
+        return ExitCode::FAILURE;
+    }
+    if !tally.recognizer_decided_most() {
+        println!("the rewriting recognizer gave up too often");
         return ExitCode::FAILURE;
     }
     ExitCode::SUCCESS
 }
 
-fn edge_cases(tally: &mut Tally, scratch: &mut Scratch) -> Outcome {
-    for (card, line) in edges::greatest_charts() {
-        let mut comparison = Comparison {
-            random: &mut Random::new(0),
-            scratch,
-            tally,
-            effort: &EFFORT,
-        };
-        comparison.run(&card, &line)?;
-    }
+fn edge_cases(who: Who, tally: &mut Tally, scratch: &mut Scratch) -> Outcome {
     let mut comparison = Comparison {
+        who,
         random: &mut Random::new(0),
         scratch,
         tally,
-        effort: &ALL_SHEET_ROOMS,
+        effort: &EFFORT,
     };
+    for (card, line) in edges::greatest_charts() {
+        comparison.run(&card, &line)?;
+        comparison.tally.cases += 1;
+    }
+    for edge in edges::shared_spellings() {
+        comparison.known(&edge)?;
+        comparison.tally.cases += 1;
+    }
+    comparison.effort = &ALL_SHEET_ROOMS;
     for (card, sheet) in sheet::edges::all() {
         comparison.sheet(&card, &sheet)?;
+        comparison.tally.cases += 1;
     }
     Ok(())
 }
 
-fn run(seed: u64, case: u64, tally: &mut Tally, scratch: &mut Scratch) -> Outcome {
-    let mut random = Random::for_case(seed, case);
+fn run(options: &Options, case: u64, tally: &mut Tally, scratch: &mut Scratch) -> Outcome {
+    let mut random = Random::for_case(options.seed, case);
     let drawn = cards::draw(&mut random);
-    let most_words = match (drawn.dense, random.below(30)) {
-        (true, 0) => 24,
-        (true, _) => 8,
-        (false, 0..=9) => 24,
-        (false, _) => 10,
-    };
+    let most_words = drawn.most_words(&mut random);
     let words = lines::draw(&drawn.text, &mut random, most_words);
     let mut line = lines::spell(&drawn.text, &mut random, &words);
     let mut card = drawn.text.bytes();
@@ -114,6 +133,7 @@ fn run(seed: u64, case: u64, tally: &mut Tally, scratch: &mut Scratch) -> Outcom
     let shift = random.below(8);
     let [card, line] = [card, line].map(|bytes| [vec![0; shift], bytes].concat());
     let mut comparison = Comparison {
+        who: options.who,
         random: &mut random,
         scratch,
         tally,
@@ -146,6 +166,7 @@ struct Options {
     cases: u64,
     seed: u64,
     only: Option<u64>,
+    who: Who,
 }
 
 impl Options {
@@ -154,17 +175,16 @@ impl Options {
             cases: DEFAULT_CASES,
             seed: 1,
             only: None,
+            who: BOTH,
         };
         let mut arguments = std::env::args().skip(1);
         while let Some(option) = arguments.next() {
-            let value = arguments
-                .next()
-                .and_then(|value| value.parse().ok())
-                .ok_or(format!("{option} needs a number"))?;
+            let mut value = || number_after(&option, arguments.next());
             match option.as_str() {
-                "--cases" => options.cases = value,
-                "--seed" => options.seed = value,
-                "--only" => options.only = Some(value),
+                "--cases" => options.cases = value()?,
+                "--seed" => options.seed = value()?,
+                "--only" => options.only = Some(value()?),
+                "--rival-only" => options.who = RIVAL_ONLY,
                 _ => return Err(format!("unknown option {option}")),
             }
         }
@@ -178,7 +198,12 @@ impl Options {
         }
     }
 
-    fn expects_all_refusals(&self) -> bool {
+    fn expects_all(&self) -> bool {
         self.only.is_none() && self.cases >= DEFAULT_CASES
     }
+}
+
+fn number_after(option: &str, value: Option<String>) -> Result<u64, String> {
+    let number = value.and_then(|value| value.parse().ok());
+    number.ok_or(format!("{option} needs a number"))
 }

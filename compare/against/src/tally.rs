@@ -1,7 +1,12 @@
 //! How often each number was expected, and what else was done.
 
+mod numbers;
+mod shared;
+
 use independent::answers::SheetAnswer;
-use std::collections::BTreeMap;
+use independent::rewriting::Found;
+use numbers::Numbers;
+use shared::{Questions, Shared};
 use std::fmt;
 
 #[derive(Default)]
@@ -19,15 +24,16 @@ pub struct Tally {
     pub lines_too_large: u64,
     pub plans_replayed: u64,
     pub charts_closed: u64,
-    pub recognizer_asked: u64,
-    pub recognizer_gave_up: u64,
+    /// The rewriting recognizer's questions about lines with one list of words, and with several.
+    one_list: Questions,
+    several_lists: Questions,
+    pub shared: Shared,
 }
 
-pub const REFUSALS: [u16; 16] = [
-    11, 12, 13, 14, 15, 16, 21, 22, 23, 24, 25, 31, 32, 33, 34, 35,
-];
+/// Another number is never expected, so that whoever answers it disagrees.
+pub const REFUSALS: [u16; 15] = [11, 12, 13, 14, 16, 21, 22, 23, 24, 25, 31, 32, 33, 34, 35];
 
-pub const SHEET_REFUSALS: [u16; 14] = [11, 12, 13, 14, 15, 16, 21, 22, 23, 24, 25, 31, 33, 41];
+pub const SHEET_REFUSALS: [u16; 13] = [11, 12, 13, 14, 16, 21, 22, 23, 24, 25, 31, 33, 41];
 
 pub const LINE_REFUSALS: [u16; 6] = [21, 22, 23, 24, 25, 31];
 
@@ -36,22 +42,66 @@ impl Tally {
         self.numbers.add(number);
     }
 
-    pub fn sheet(&mut self, answer: &SheetAnswer) {
+    /// `several_lists` tells whether a line of the sheet has several lists of words.
+    pub fn sheet(&mut self, answer: &SheetAnswer, several_lists: bool) {
         self.sheets.add(answer.number);
         if answer.line > 0 {
             self.sheets_in_the_middle.add(answer.number);
         }
-        self.sheets_with_records += u64::from(answer.records > 0);
+        let has_records = answer.records > 0;
+        self.sheets_with_records += u64::from(has_records);
+        self.shared.sheets_with_records += u64::from(has_records && several_lists);
     }
 
-    /// Refusals that never occurred: of any call, of sheets, and of lines that are not the first
-    /// of a sheet.
-    pub fn missing(&self) -> [Vec<u16>; 3] {
-        [
-            self.numbers.missing(&REFUSALS),
-            self.sheets.missing(&SHEET_REFUSALS),
-            self.sheets_in_the_middle.missing(&LINE_REFUSALS),
-        ]
+    /// What the rewriting recognizer found out about a line, if it did not give up.
+    pub fn recognizer(&mut self, found: Option<Found>, several_lists: bool) {
+        if !several_lists {
+            self.one_list.add(found);
+            return;
+        }
+        self.several_lists.add(found);
+        let refuted = found.is_some_and(|found| !found.derives);
+        self.shared.lists_all_refuted += u64::from(refuted);
+    }
+
+    /// What never occurred: refusals of any call, of sheets, and of lines that are not the first of
+    /// a sheet; and what shared spellings should have brought about.
+    pub fn missing(&self) -> Vec<String> {
+        let refusals = [
+            ("a call", self.numbers.missing(&REFUSALS)),
+            ("a sheet", self.sheets.missing(&SHEET_REFUSALS)),
+            (
+                "a later line of a sheet",
+                self.sheets_in_the_middle.missing(&LINE_REFUSALS),
+            ),
+        ];
+        let refusals = refusals.into_iter().flat_map(|(of, numbers)| {
+            let named = move |number| format!("{number} of {of}");
+            numbers.into_iter().map(named)
+        });
+        let shared = self.shared.counts().into_iter();
+        let shared = shared.filter(|(_, count)| *count == 0);
+        refusals
+            .chain(shared.map(|(what, _)| what.to_string()))
+            .collect()
+    }
+
+    /// Numbers that were expected although they are not in the lists.
+    pub fn strays(&self) -> Vec<u16> {
+        let sheets = [&self.sheets, &self.sheets_in_the_middle];
+        let mut strays = self.numbers.strays(&REFUSALS);
+        strays.extend(
+            sheets
+                .map(|numbers| numbers.strays(&SHEET_REFUSALS))
+                .concat(),
+        );
+        strays
+    }
+
+    /// Whether the recognizer decided most lines, those with several lists of words by themselves.
+    pub fn recognizer_decided_most(&self) -> bool {
+        let most = |questions: &Questions| 10 * questions.gave_up <= questions.asked;
+        most(&self.one_list) && most(&self.several_lists)
     }
 }
 
@@ -63,10 +113,13 @@ impl fmt::Display for Tally {
         }
         write!(
             f,
-            "; {} item sets compared with the naive closure; \
-             the rewriting recognizer was asked {} times and gave up {} times",
-            self.charts_closed, self.recognizer_asked, self.recognizer_gave_up
+            "; {} item sets compared with the naive closure",
+            self.charts_closed
         )?;
+        self.write_recognizer(f)?;
+        if self.shared.lines > 0 {
+            self.write_shared(f)?;
+        }
         if !self.sheets.is_empty() {
             self.write_sheets(f)?;
         }
@@ -88,6 +141,26 @@ impl Tally {
         )
     }
 
+    fn write_recognizer(&self, f: &mut fmt::Formatter) -> fmt::Result {
+        let [one, several] = [&self.one_list, &self.several_lists];
+        write!(
+            f,
+            "; the rewriting recognizer was asked {} times and gave up {} times, \
+             of lines with several lists of words {} and {}, {} decided by more than one",
+            one.asked + several.asked,
+            one.gave_up + several.gave_up,
+            several.asked,
+            several.gave_up,
+            several.by_several_lists
+        )
+    }
+
+    fn write_shared(&self, f: &mut fmt::Formatter) -> fmt::Result {
+        let counts = self.shared.counts();
+        let counts = counts.map(|(what, count)| format!("{what} {count}"));
+        write!(f, "; {}", counts.join(", "))
+    }
+
     fn write_sheets(&self, f: &mut fmt::Formatter) -> fmt::Result {
         write!(
             f,
@@ -97,33 +170,5 @@ impl Tally {
             self.sheets.list(&SHEET_REFUSALS),
             self.sheets_in_the_middle.list(&LINE_REFUSALS)
         )
-    }
-}
-
-/// How often each number came.
-#[derive(Default)]
-struct Numbers(BTreeMap<u16, u64>);
-
-impl Numbers {
-    fn add(&mut self, number: u16) {
-        *self.0.entry(number).or_default() += 1;
-    }
-
-    fn is_empty(&self) -> bool {
-        self.0.is_empty()
-    }
-
-    fn count(&self, number: u16) -> u64 {
-        self.0.get(&number).copied().unwrap_or(0)
-    }
-
-    fn missing(&self, refusals: &[u16]) -> Vec<u16> {
-        let never = |number: &u16| self.count(*number) == 0;
-        refusals.iter().copied().filter(never).collect()
-    }
-
-    fn list(&self, refusals: &[u16]) -> String {
-        let counted = |number: &u16| format!(" {number}:{}", self.count(*number));
-        refusals.iter().map(counted).collect()
     }
 }

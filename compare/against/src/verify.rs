@@ -7,6 +7,7 @@ use crate::room::Room;
 use independent::answers::{NameAnswer, PairsAnswer, ReadAnswer};
 use independent::card::{Action, Card, Production};
 use independent::item::Record;
+use independent::line::Spelled;
 use independent::replay::replay;
 use independent::steps;
 
@@ -57,7 +58,7 @@ pub fn refused_read(
     chart: &mut Room,
     plan: &mut Room,
 ) -> Verdict {
-    let number = input.words.as_ref().err().copied().unwrap_or(0);
+    let number = input.line.as_ref().err().copied().unwrap_or(0);
     let answer = calls.read(
         input.card_bytes,
         input.line_bytes,
@@ -79,21 +80,21 @@ pub fn read(
     chart: &mut Room,
     plan: &mut Room,
 ) -> Result<Option<Vec<u8>>, String> {
-    let (card, words) = input.accepted().ok_or("input is refused")?;
+    let (card, line) = input.accepted().ok_or("input is refused")?;
     let answer = calls.read(
         input.card_bytes,
         input.line_bytes,
         chart.lend(),
         plan.lend(),
     );
-    let number = items.read_number(words.len(), chart.length(), plan.length());
+    let number = items.read_number(line.len(), chart.length(), plan.length());
     let expected = match number {
         0 | 25 => ReadAnswer {
             number,
-            words: words.len() as u16,
+            words: line.len() as u16,
             items: items.count() as u16,
             steps: if number == 0 {
-                2 * words.len() as u16 - 1
+                2 * line.len() as u16 - 1
             } else {
                 0
             },
@@ -104,7 +105,7 @@ pub fn read(
     match number {
         31 => demand("31 left the chart room other than zero", chart.zeroed())?,
         32 => demand("32 touched the chart room", chart.untouched_after(0))?,
-        _ => chart_room(card, words, items, chart)?,
+        _ => chart_room(card, line, items, chart)?,
     }
     let plan_length = 4 * usize::from(expected.steps);
     demand(
@@ -115,14 +116,14 @@ pub fn read(
         return Ok(None);
     }
     let plan = plan.now()[..plan_length].to_vec();
-    match replay(card, words, &plan) {
+    match replay(card, line, &plan) {
         Some(_) => Ok(Some(plan)),
         None => Err(format!("the plan {plan:?} is no leftmost derivation")),
     }
 }
 
 /// The whole chart is there, each record is a step, each item stands once, the rest is untouched.
-fn chart_room(card: &Card, words: &[u8], items: &Items, room: &Room) -> Verdict {
+fn chart_room(card: &Card, line: &[Spelled], items: &Items, room: &Room) -> Verdict {
     let held = items
         .held
         .as_ref()
@@ -139,7 +140,7 @@ fn chart_room(card: &Card, words: &[u8], items: &Items, room: &Room) -> Verdict 
     let records: Option<Vec<Record>> = bytes.iter().map(Record::decode).collect();
     let records = records.ok_or("a record breaks its layout")?;
     for (position, record) in records.iter().enumerate() {
-        if !is_step(card, words, &records[..position], record) {
+        if !is_step(card, line, &records[..position], record) {
             return Err(format!("record {position} is no step: {record:?}"));
         }
     }
@@ -147,7 +148,7 @@ fn chart_room(card: &Card, words: &[u8], items: &Items, room: &Room) -> Verdict 
 }
 
 /// Whether the record's item is what its production makes of the records it names, all earlier.
-fn is_step(card: &Card, words: &[u8], earlier: &[Record], record: &Record) -> bool {
+fn is_step(card: &Card, line: &[Spelled], earlier: &[Record], record: &Record) -> bool {
     let Some(production) = card.productions.get(usize::from(record.production)) else {
         return false;
     };
@@ -156,7 +157,7 @@ fn is_step(card: &Card, words: &[u8], earlier: &[Record], record: &Record) -> bo
         Production::Word { .. } => {
             let alone = [record.side, record.dependent, record.continuation] == [None; 3];
             alone
-                .then(|| steps::word(production, words, record.item.i.into()))
+                .then(|| steps::word(production, line, record.item.i.into()))
                 .flatten()
         }
         Production::Pair(pair) => {

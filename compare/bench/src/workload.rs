@@ -3,7 +3,7 @@
 use crate::sheet::SheetWorkload;
 use independent::chart;
 use independent::random::Random;
-use independent::write::{CardText, tomato, tomato_line};
+use independent::write::{CardText, tomato, tomato_line, tomato_with_twins};
 
 pub struct Workload {
     pub name: String,
@@ -46,6 +46,9 @@ pub fn all() -> Vec<Workload> {
         overflow,
         limits(),
         worst_found(),
+        twins_of(1),
+        twins_of(4),
+        twins_of(11),
     ]
 }
 
@@ -75,6 +78,16 @@ pub fn tomato_of(materials: usize) -> Workload {
         tomato_line(&list),
         words,
     )
+}
+
+/// The same line under the tomato card with twins: two words at each place, one item of both.
+fn twins_of(materials: usize) -> Workload {
+    let line = tomato_of(materials);
+    Workload {
+        name: line.name.replace("tomato", "tomato with twins"),
+        card: tomato_with_twins().bytes(),
+        ..line
+    }
 }
 
 /// One nonterminal and one index, under which every stretch is read in every way.

@@ -39,7 +39,7 @@ pub enum Action {
 }
 
 impl Card {
-    /// The refusals 11 to 16, in this order.
+    /// The refusals 11 to 14 and 16, in this order. Entries may be equal: 15 no longer occurs.
     pub fn accept(bytes: &[u8]) -> Result<Self, u16> {
         if bytes.len() < 12 || &bytes[0..4] != b"LIG1" {
             return Err(11);
@@ -57,9 +57,6 @@ impl Card {
         let words: Option<Vec<Vec<u8>>> =
             bytes[12..productions_at].chunks(12).map(spelling).collect();
         let words = words.ok_or(14_u16)?;
-        if (1..words.len()).any(|later| words[..later].contains(&words[later])) {
-            return Err(15);
-        }
         let productions: Option<Vec<Production>> = bytes[productions_at..]
             .chunks(6)
             .map(|bytes| production(bytes, &counts))
@@ -70,6 +67,12 @@ impl Card {
             words,
             productions: productions.ok_or(16_u16)?,
         })
+    }
+
+    /// All words with this spelling, by number.
+    pub fn spelled(&self, spelling: &[u8]) -> Vec<u8> {
+        let is_spelled_so = |number: &u8| self.words[usize::from(*number)] == spelling;
+        (0..self.words.len() as u8).filter(is_spelled_so).collect()
     }
 }
 

@@ -9,6 +9,7 @@ mod follow;
 mod line;
 mod record;
 mod sheet;
+mod spellings;
 mod tables;
 mod unfold;
 mod unset;
@@ -18,8 +19,9 @@ use crate::answers::{NameAnswer, PairsAnswer, ReadAnswer};
 use build::MOST_ITEMS;
 use card::Card;
 use follow::Pairs;
-use line::Words;
+use line::{MOST_WORDS, WordSets};
 pub use sheet::sheet;
+use spellings::Spellings;
 use uses::ProductionSets;
 
 /// 0, or the card's refusal.
@@ -28,25 +30,31 @@ pub fn card_check(card: &[u8]) -> u16 {
 }
 
 pub fn read(card: &[u8], line: &[u8], chart: &mut [u8], plan: &mut [u8]) -> ReadAnswer {
-    accepted(card, line)
+    accepted(card, line, &mut [0; MOST_WORDS])
         .and_then(|(card, words)| {
             let mut sets = ProductionSets::empty();
             sets.add_all(&card);
-            read_words(&card, &sets, words.numbers(), chart, plan)
+            read_words(&card, &sets, words, chart, plan)
         })
         .unwrap_or_else(ReadAnswer::refused)
 }
 
-fn accepted<'a>(card: &'a [u8], line: &[u8]) -> Result<(Card<'a>, Words), u16> {
+fn accepted<'a>(
+    card: &'a [u8],
+    line: &[u8],
+    words: &'a mut WordSets,
+) -> Result<(Card<'a>, &'a [u32]), u16> {
     let card = Card::accept(card)?;
-    let words = Words::accept(&card, line)?;
+    let mut spellings = Spellings::empty(card.words);
+    spellings.add_all();
+    let words = line::places(&spellings, line, words)?;
     Ok((card, words))
 }
 
 fn read_words(
     card: &Card,
     sets: &ProductionSets,
-    words: &[u8],
+    words: &[u32],
     chart: &mut [u8],
     plan: &mut [u8],
 ) -> Result<ReadAnswer, u16> {
@@ -84,8 +92,9 @@ pub fn check(card: &[u8], line: &[u8], plan: &[u8]) -> u16 {
 }
 
 fn followed(card: &[u8], line: &[u8], plan: &[u8]) -> Result<Pairs, u16> {
-    let (card, words) = accepted(card, line)?;
-    follow::follow(&card, words.numbers(), plan).ok_or(34)
+    let mut words = [0; MOST_WORDS];
+    let (card, words) = accepted(card, line, &mut words)?;
+    follow::follow(&card, words, plan).ok_or(34)
 }
 
 pub fn pairs(card: &[u8], line: &[u8], plan: &[u8], room: &mut [u8]) -> PairsAnswer {

@@ -1,16 +1,17 @@
 //! The set of derivable items, as plainly as can be: rounds of all steps over all items, until a
-//! round adds nothing.
+//! round adds nothing. An item that several words of one place give is in the set once.
 
 use crate::card::{Card, Production};
 use crate::item::Item;
+use crate::line::Spelled;
 use crate::steps;
 use std::collections::HashSet;
 
 /// None if more than `most` items turn up.
-pub fn derivable(card: &Card, words: &[u8], most: usize) -> Option<HashSet<Item>> {
+pub fn derivable(card: &Card, line: &[Spelled], most: usize) -> Option<HashSet<Item>> {
     let mut items = HashSet::new();
     loop {
-        let found = round(card, words, &items);
+        let found = round(card, line, &items);
         let before = items.len();
         items.extend(found);
         if items.len() > most {
@@ -22,10 +23,10 @@ pub fn derivable(card: &Card, words: &[u8], most: usize) -> Option<HashSet<Item>
     }
 }
 
-fn round(card: &Card, words: &[u8], items: &HashSet<Item>) -> Vec<Item> {
+fn round(card: &Card, line: &[Spelled], items: &HashSet<Item>) -> Vec<Item> {
     let mut found = Vec::new();
     for production in &card.productions {
-        found.extend((0..words.len()).filter_map(|i| steps::word(production, words, i)));
+        found.extend((0..line.len()).filter_map(|i| steps::word(production, line, i)));
         let Production::Pair(production) = production else {
             continue;
         };

@@ -1,8 +1,8 @@
-//! The order reader of document 01, with the sheets of document 02, written a second time and in
-//! several ways:
+//! The order reader of document 01, with the sheets and the shared spellings of document 02,
+//! written a second time and in several ways:
 //!
 //! - `card`, `sheet`, `line`: the refusals and the decoding that the slow ways share;
-//! - `rewriting`: a recognizer from the definition of rewriting;
+//! - `rewriting`: a recognizer from the definition of rewriting, one list of words after the other;
 //! - `closure`: the set of derivable items, from the deduction steps (`steps`, `item`);
 //! - `replay`: plans and their pairs, followed on sentential forms;
 //! - `chart`: the six calls made for speed, with a card check and line splitters of its own.

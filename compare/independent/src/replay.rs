@@ -3,6 +3,7 @@
 //! off the words finally reached.
 
 use crate::card::{Action, Card, PairProduction, Place, Production};
+use crate::line::Spelled;
 
 /// The step that gave an index tells it from every other one.
 #[derive(Clone, Copy)]
@@ -35,12 +36,14 @@ struct Element {
 
 /// A plan that was replayed to its end.
 pub struct Replayed {
+    /// The list of words that the plan ends in. Their spellings are the line's.
+    pub words: Vec<u8>,
     /// Both words of each pair, in the order of the give steps.
     pub pairs: Vec<[u8; 2]>,
 }
 
-/// None if the plan is not a leftmost derivation of the words.
-pub fn replay(card: &Card, words: &[u8], plan: &[u8]) -> Option<Replayed> {
+/// None if the plan is not a leftmost derivation of the line.
+pub fn replay(card: &Card, line: &[Spelled], plan: &[u8]) -> Option<Replayed> {
     let (steps, rest) = plan.as_chunks::<4>();
     if !rest.is_empty() {
         return None;
@@ -55,11 +58,12 @@ pub fn replay(card: &Card, words: &[u8], plan: &[u8]) -> Option<Replayed> {
         let production = card.productions.get(usize::from(production))?;
         replace_leftmost(&mut form, number, production, &mut taken_by)?;
     }
-    if !is_line(&form, words) || !stretches_agree(&form, steps) {
+    let words = list_of_words(&form)?;
+    if !spells_line(card, &words, line) || !stretches_agree(&form, steps) {
         return None;
     }
     let pairs = pairs(card, &form, steps, &taken_by)?;
-    Some(Replayed { pairs })
+    Some(Replayed { words, pairs })
 }
 
 fn replace_leftmost(
@@ -135,12 +139,20 @@ fn elements(production: &PairProduction, rest: Vec<Index>) -> Vec<Symbol> {
     ]
 }
 
-fn is_line(form: &[Descendant], words: &[u8]) -> bool {
-    form.len() == words.len()
-        && form
-            .iter()
-            .zip(words)
-            .all(|(descendant, &word)| matches!(descendant.symbol, Symbol::Word(w) if w == word))
+/// The words that the form consists of; none if a nonterminal is left.
+fn list_of_words(form: &[Descendant]) -> Option<Vec<u8>> {
+    let word = |descendant: &Descendant| match descendant.symbol {
+        Symbol::Word(word) => Some(word),
+        Symbol::Nonterminal(..) => None,
+    };
+    form.iter().map(word).collect()
+}
+
+/// Whether the words' spellings are the line's. Their numbers are not compared.
+fn spells_line(card: &Card, words: &[u8], line: &[Spelled]) -> bool {
+    let spelling = |&word: &u8| card.words[usize::from(word)].as_slice();
+    let wanted = line.iter().map(|place| place.spelling.as_slice());
+    words.iter().map(spelling).eq(wanted)
 }
 
 /// First and last-plus-one of the words that descend from what `of` chooses.

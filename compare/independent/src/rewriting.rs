@@ -2,31 +2,50 @@
 //! come to a given stretch of words? Answers are remembered; there is no chart and there are no
 //! items.
 //!
+//! A derivation of a line ends in a list of words whose spellings are the line's. So the question
+//! is asked anew for one such list after the other, and nothing is carried over: no place ever has
+//! more than one word here.
+//!
 //! Stacks need no depth limit of their own. Each take step splits off a side of at least one
 //! word, and after the last one the spine still comes to a word; so a stretch of m words cannot
 //! use up a stack of m or more indices, and such a question is answered with no.
 
 use crate::card::{Action, Card, PairProduction, Place, Production};
+use crate::line::{Spelled, word_lists};
 use std::collections::HashMap;
 
 /// The search was given up.
 #[derive(Debug)]
 pub struct TooMuchWork;
 
-/// Whether the line has a derivation, looked for in no more than `work` trials of a production.
-pub fn derives(card: &Card, words: &[u8], work: usize) -> Result<bool, TooMuchWork> {
-    let mut search = Search {
-        card,
-        words,
-        known: HashMap::new(),
-        work,
-    };
-    search.comes_to(Question {
-        nonterminal: 0,
-        stack: Vec::new(),
-        i: 0,
-        j: words.len(),
-    })
+/// What a search that came to its end has found.
+#[derive(Clone, Copy, Debug, PartialEq, Eq)]
+pub struct Found {
+    pub derives: bool,
+    /// The lists of words asked about: all of them, or those up to the first that has a derivation.
+    pub lists: usize,
+}
+
+/// Whether the line has a derivation, looked for in no more than `work` trials of a production,
+/// those of all lists together.
+pub fn derives(card: &Card, line: &[Spelled], mut work: usize) -> Result<Found, TooMuchWork> {
+    let mut lists = 0;
+    for words in word_lists(line) {
+        lists += 1;
+        let mut search = Search {
+            card,
+            words: &words,
+            known: HashMap::new(),
+            work,
+        };
+        if search.whole_list()? {
+            let derives = true;
+            return Ok(Found { derives, lists });
+        }
+        work = search.work;
+    }
+    let derives = false;
+    Ok(Found { derives, lists })
 }
 
 #[derive(Clone, PartialEq, Eq, Hash)]
@@ -46,6 +65,16 @@ struct Search<'a> {
 }
 
 impl Search<'_> {
+    /// Whether the list of words has a derivation.
+    fn whole_list(&mut self) -> Result<bool, TooMuchWork> {
+        self.comes_to(Question {
+            nonterminal: 0,
+            stack: Vec::new(),
+            i: 0,
+            j: self.words.len(),
+        })
+    }
+
     fn comes_to(&mut self, question: Question) -> Result<bool, TooMuchWork> {
         if question.stack.len() >= question.j - question.i {
             return Ok(false);

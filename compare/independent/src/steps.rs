@@ -3,11 +3,12 @@
 
 use crate::card::{Action, PairProduction, Place, Production};
 use crate::item::{Gone, Item};
+use crate::line::Spelled;
 
-/// word: the item over the word at place i.
-pub fn word(production: &Production, words: &[u8], i: usize) -> Option<Item> {
+/// word: the item over place i, if the production's word is one of those spelled as that place is.
+pub fn word(production: &Production, line: &[Spelled], i: usize) -> Option<Item> {
     match *production {
-        Production::Word { head, word } if words.get(i) == Some(&word) => Some(Item {
+        Production::Word { head, word } if line.get(i)?.words.contains(&word) => Some(Item {
             nonterminal: head,
             index: 0,
             i: i as u8,

@@ -67,6 +67,19 @@ pub fn tomato() -> CardText {
     }
 }
 
+/// The tomato card with each spelling entered twice, and the same nonterminal for both words.
+pub fn tomato_with_twins() -> CardText {
+    let mut card = tomato();
+    let entered = card.words.len() as u8;
+    card.words.extend_from_within(..);
+    for number in 0..entered {
+        let mut twin = card.productions[usize::from(number)];
+        twin[2] += entered;
+        card.productions.push(twin);
+    }
+    card
+}
+
 /// A tomato line: materials, "takes", and the feeds of these materials in the same order.
 pub fn tomato_line(materials: &[u8]) -> Vec<u8> {
     let feeds = materials.iter().map(|material| material + 3);

@@ -53,22 +53,22 @@ fn the_others_agree_on_the_rows() {
     let bytes = tomato().bytes();
     let card = Card::accept(&bytes).expect("the tomato card is accepted");
     for (text, number, items, pairs) in ROWS {
-        let words = match line::words(&card, text.as_bytes()) {
-            Ok(words) => words,
+        let line = match line::places(&card, text.as_bytes()) {
+            Ok(line) => line,
             Err(refusal) => {
                 assert_eq!(refusal, number, "{text}");
                 continue;
             }
         };
-        let set = closure::derivable(&card, &words, 100).expect("few items");
+        let set = closure::derivable(&card, &line, 100).expect("few items");
         assert_eq!(set.len(), usize::from(items), "{text}");
-        let derives = rewriting::derives(&card, &words, 1_000_000).expect("little work");
-        assert_eq!(derives, number == 0, "{text}");
+        let found = rewriting::derives(&card, &line, 1_000_000).expect("little work");
+        assert_eq!(found.derives, number == 0, "{text}");
         if number == 0 {
             let mut plan = [0; 188];
             let answer = chart::read(&bytes, text.as_bytes(), &mut [0; 1600], &mut plan);
             let plan = &plan[..4 * usize::from(answer.steps)];
-            let replayed = replay::replay(&card, &words, plan).expect("a derivation");
+            let replayed = replay::replay(&card, &line, plan).expect("a derivation");
             assert_eq!(replayed.pairs, pairs, "{text}");
         }
     }

@@ -1,11 +1,16 @@
 //! Small worlds gone through whole: all lines of up to six words under some hundred small cards,
-//! all plans with small numbers for lines of up to two words, and all sheets of up to seven bytes.
+//! with spellings that differ and with words spelled alike; all plans with small numbers for lines
+//! of up to two words; and all sheets of up to seven bytes.
+//!
+//! `small [--rival-only]`; the option compares the independent chart parser and leaves the library
+//! out.
 
 mod enumerate;
 mod plans;
 mod sheets;
 mod worlds;
 
+use against::calls::{BOTH, RIVAL_ONLY, Who};
 use against::compare::{Comparison, Effort, Outcome};
 use against::expected::Scratch;
 use against::tally::Tally;
@@ -17,22 +22,30 @@ use std::process::ExitCode;
 use std::time::Instant;
 
 const MOST_WORDS: usize = 6;
+
+/// Cards of each kind, with spellings that differ and with words spelled alike.
 const ROUNDS: usize = 16;
+const ROUNDS_ALIKE: usize = 4;
 
 const EFFORT: Effort = Effort {
     other_rooms: 1,
     damaged_plans: 1,
-    recognizer_work: 100_000,
+    recognizer_work: 4_000_000,
     closure_items: 60,
     sheet_rooms: 3,
 };
 
 fn main() -> ExitCode {
+    let who = match std::env::args().nth(1).as_deref() {
+        None => BOTH,
+        Some("--rival-only") => RIVAL_ONLY,
+        Some(option) => {
+            eprintln!("unknown option {option}");
+            return ExitCode::from(2);
+        }
+    };
     let start = Instant::now();
-    match all_lines()
-        .and_then(|()| all_plans())
-        .and_then(|()| all_sheets())
-    {
+    match all_comparisons(who) {
         Ok(()) => {
             println!("{:.1} s", start.elapsed().as_secs_f64());
             ExitCode::SUCCESS
@@ -44,51 +57,74 @@ fn main() -> ExitCode {
     }
 }
 
-fn all_lines() -> Outcome {
+fn all_comparisons(who: Who) -> Outcome {
+    all_lines(who, "spellings that differ", &worlds::cards(ROUNDS))?;
+    all_lines(
+        who,
+        "words spelled alike",
+        &worlds::cards_alike(ROUNDS_ALIKE),
+    )?;
+    all_plans(who)?;
+    all_sheets(who)
+}
+
+fn all_lines(who: Who, kind: &str, cards: &[CardText]) -> Outcome {
     let mut tally = Tally::default();
-    let mut scratch = Scratch::default();
-    let mut random = Random::new(0);
-    let cards = worlds::cards(ROUNDS);
-    for text in &cards {
+    let mut comparison = Comparison {
+        who,
+        random: &mut Random::new(0),
+        scratch: &mut Scratch::default(),
+        tally: &mut tally,
+        effort: &EFFORT,
+    };
+    for text in cards {
         let card = text.bytes();
+        let spellings = spellings(text);
         for words in 0..=MOST_WORDS {
-            for numbers in lists(text.words.len(), words) {
-                let mut comparison = Comparison {
-                    random: &mut random,
-                    scratch: &mut scratch,
-                    tally: &mut tally,
-                    effort: &EFFORT,
-                };
-                comparison.run(&card, &line(text, &numbers))?;
-                tally.cases += 1;
+            for numbers in lists(spellings.len(), words) {
+                comparison.run(&card, &line(&spellings, &numbers))?;
+                comparison.tally.cases += 1;
             }
         }
     }
     println!(
-        "{} cards, all lines of up to {MOST_WORDS} words: {tally}",
+        "{} cards with {kind}, all lines of up to {MOST_WORDS} words: {tally}",
         cards.len()
     );
     Ok(())
 }
 
-fn line(text: &CardText, numbers: &[usize]) -> Vec<u8> {
-    let numbers: Vec<u8> = numbers.iter().map(|&number| number as u8).collect();
-    text.line(&numbers)
+/// The spellings on a card, each once.
+fn spellings(text: &CardText) -> Vec<&str> {
+    let mut list: Vec<&str> = Vec::new();
+    for word in &text.words {
+        if !list.contains(&word.as_str()) {
+            list.push(word);
+        }
+    }
+    list
 }
 
-fn all_plans() -> Outcome {
+fn line(spellings: &[&str], numbers: &[usize]) -> Vec<u8> {
+    let spelled: Vec<&str> = numbers.iter().map(|&number| spellings[number]).collect();
+    spelled.join(" ").into_bytes()
+}
+
+fn all_plans(who: Who) -> Outcome {
     let mut tried = Tried::default();
     for (number, text) in worlds::cards_for_plans().iter().enumerate() {
         let card = text.bytes();
+        let spellings = spellings(text);
         for words in 1..=2 {
-            for numbers in lists(text.words.len(), words) {
+            for numbers in lists(spellings.len(), words) {
                 // Places past the line are tried everywhere for one word, for two words once.
                 let most_place = match (words, number) {
                     (1, _) => 4,
                     (_, 0) if numbers == [0, 0] => 3,
                     _ => 2,
                 };
-                plans::try_all(&card, &line(text, &numbers), words, most_place, &mut tried)?;
+                let line = line(&spellings, &numbers);
+                plans::try_all(who, &card, &line, words, most_place, &mut tried)?;
             }
         }
     }
@@ -99,11 +135,12 @@ fn all_plans() -> Outcome {
     Ok(())
 }
 
-fn all_sheets() -> Outcome {
+fn all_sheets(who: Who) -> Outcome {
     let mut tally = Tally::default();
     let cards = worlds::cards_for_sheets();
     for text in &cards {
         let mut comparison = Comparison {
+            who,
             random: &mut Random::new(0),
             scratch: &mut Scratch::default(),
             tally: &mut tally,

@@ -1,7 +1,7 @@
 //! All plans of the right length with small numbers: Check against the literal replayer.
 
 use crate::enumerate::lists;
-use against::calls::BOTH;
+use against::calls::Who;
 use against::disagreement::Disagreement;
 use against::expected::Input;
 use against::verify;
@@ -15,6 +15,7 @@ pub struct Tried {
 
 /// Tries every plan whose productions are at most P, and whose places are at most `most_place`.
 pub fn try_all(
+    who: Who,
     card: &[u8],
     line: &[u8],
     words: usize,
@@ -30,7 +31,7 @@ pub fn try_all(
             *step = steps[number];
         }
         tried.all += 1;
-        tried.passing += u64::from(passes(&input, plan.as_flattened())?);
+        tried.passing += u64::from(passes(who, &input, plan.as_flattened())?);
     }
     Ok(())
 }
@@ -43,9 +44,9 @@ fn every_step(productions: usize, most_place: usize) -> Vec<[u8; 4]> {
 }
 
 /// Whether the plan passes, if all agree on that.
-fn passes(input: &Input, plan: &[u8]) -> Result<bool, Box<Disagreement>> {
+fn passes(who: Who, input: &Input, plan: &[u8]) -> Result<bool, Box<Disagreement>> {
     let expected = input.replayed(plan).err().unwrap_or(0);
-    for calls in BOTH {
+    for &calls in who {
         verify::check(calls, input, plan, expected)
             .map_err(|what| Disagreement::on_line(calls, input, plan, [None; 3], what))?;
     }

@@ -12,8 +12,33 @@ pub fn cards(rounds: usize) -> Vec<CardText> {
         for nonterminals in 1..=3 {
             for indices in 0..=2 {
                 for words in 1..=2 + usize::from(round % 8 == 0) {
-                    list.push(card(&mut random, nonterminals, indices, words));
+                    let spellings = &["a", "ab", "b"][..words];
+                    list.push(card(&mut random, nonterminals, indices, spellings));
                 }
+            }
+        }
+    }
+    list
+}
+
+/// The entries of two and of three words of which two at least are spelled alike.
+const ALIKE: [&[&str]; 5] = [
+    &["a", "a"],
+    &["a", "a", "b"],
+    &["a", "b", "a"],
+    &["b", "a", "a"],
+    &["a", "a", "a"],
+];
+
+/// The same with words spelled alike.
+pub fn cards_alike(rounds: usize) -> Vec<CardText> {
+    let mut random = Random::new(2);
+    let mut list = Vec::new();
+    for _ in 0..rounds {
+        for nonterminals in 1..=3 {
+            for indices in 0..=2 {
+                let card = |spellings| card(&mut random, nonterminals, indices, spellings);
+                list.extend(ALIKE.map(card));
             }
         }
     }
@@ -22,7 +47,8 @@ pub fn cards(rounds: usize) -> Vec<CardText> {
 
 /// Every nonterminal makes a word; three to ten productions more, half of the time with one of
 /// each kind among them.
-fn card(random: &mut Random, nonterminals: usize, indices: usize, words: usize) -> CardText {
+fn card(random: &mut Random, nonterminals: usize, indices: usize, spellings: &[&str]) -> CardText {
+    let words = spellings.len();
     let mut productions: Vec<[u8; 6]> = (0..nonterminals)
         .map(|nonterminal| [0, nonterminal as u8, random.below(words) as u8, 0, 0, 0])
         .collect();
@@ -43,10 +69,7 @@ fn card(random: &mut Random, nonterminals: usize, indices: usize, words: usize) 
     CardText {
         nonterminals: nonterminals as u8,
         indices: indices as u8,
-        words: ["a", "ab", "b"][..words]
-            .iter()
-            .map(|word| word.to_string())
-            .collect(),
+        words: spellings.iter().map(|word| word.to_string()).collect(),
         productions,
     }
 }
@@ -68,12 +91,14 @@ fn production(
 
 /// Cards of two to four productions whose plans are all tried.
 pub fn cards_for_plans() -> Vec<CardText> {
-    let card = |indices, productions: &[[u8; 6]]| CardText {
+    let card_of = |words: &[&str], indices, productions: &[[u8; 6]]| CardText {
         nonterminals: 2,
         indices,
-        words: vec!["a".to_string(), "b".to_string()],
+        words: words.iter().map(|word| word.to_string()).collect(),
         productions: productions.to_vec(),
     };
+    let card = |indices, productions: &[[u8; 6]]| card_of(&["a", "b"], indices, productions);
+    let alike = |productions: &[[u8; 6]]| card_of(&["a", "a"], 0, productions);
     let a_word = [0, 0, 0, 0, 0, 0];
     let b_word = [0, 1, 1, 0, 0, 0];
     vec![
@@ -84,12 +109,21 @@ pub fn cards_for_plans() -> Vec<CardText> {
         card(1, &[a_word, [6, 0, 0, 1, 1, 0], b_word]),
         card(1, &[a_word, a_word, [3, 0, 0, 0, 0, 0]]),
         card(1, &[[0, 0, 1, 0, 0, 0], b_word, [4, 0, 0, 1, 0, 0]]),
+        alike(&[a_word, [3, 0, 0, 0, 0, 0]]),
+        alike(&[[0, 0, 1, 0, 0, 0], [3, 0, 0, 0, 0, 0]]),
+        alike(&[a_word, [0, 0, 1, 0, 0, 0], [3, 0, 0, 0, 0, 0]]),
+        alike(&[a_word, b_word, [4, 0, 0, 1, 0, 0]]),
+        card_of(
+            &["a", "b", "a"],
+            0,
+            &[[0, 0, 2, 0, 0, 0], b_word, [3, 0, 1, 0, 0, 0]],
+        ),
     ]
 }
 
 /// Cards whose short sheets are all tried. The first one reads a b b with a pair; the second, on
-/// which b is no word, reads a a a with one.
-pub fn cards_for_sheets() -> [CardText; 2] {
+/// which b is no word, reads a a a with one; the third too, by two words spelled alike.
+pub fn cards_for_sheets() -> [CardText; 3] {
     let card = |nonterminals, words: &[&str], productions: &[[u8; 6]]| CardText {
         nonterminals,
         indices: 1,
@@ -103,5 +137,6 @@ pub fn cards_for_sheets() -> [CardText; 2] {
     [
         card(2, &["a", "b"], &[a_word, b_word, give, take]),
         card(1, &["a"], &[a_word, give_alone, take_alone]),
+        card(2, &["a", "a"], &[a_word, b_word, give, take]),
     ]
 }

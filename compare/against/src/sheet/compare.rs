@@ -2,7 +2,7 @@
 
 use super::input::{Line, Sheet};
 use super::reads::{Due, due};
-use crate::calls::{BOTH, Calls};
+use crate::calls::Calls;
 use crate::compare::{Comparison, Outcome};
 use crate::disagreement::Disagreement;
 use crate::room::Room;
@@ -21,7 +21,7 @@ impl Comparison<'_> {
         }
         for length in self.chart_lengths(&sheet) {
             let chart = Room::new(length, self.random);
-            for calls in BOTH {
+            for &calls in self.who {
                 self.sheet_in(calls, &sheet, &chart)?;
             }
         }
@@ -68,7 +68,7 @@ impl Comparison<'_> {
         for length in self.output_lengths(due.records.len()) {
             let mut output = Room::new(length, self.random);
             let expected = answer(&due, length);
-            self.tally.sheet(&expected);
+            self.tally.sheet(&expected, sheet.has_several_lists());
             verify(calls, sheet, &due, expected, chart.clone(), &mut output)
                 .map_err(|what| report(Some(length), what))?;
         }

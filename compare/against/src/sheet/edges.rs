@@ -1,7 +1,7 @@
 //! Sheets at limits that random ones do not meet.
 
 use crate::edges::greatest_charts;
-use independent::write::{tomato, tomato_line};
+use independent::write::{CardText, tomato, tomato_line};
 
 /// 5 items and one pair; 9 items and two pairs; no reading, 1 item.
 const SHORT: &str = "coir takes mild";
@@ -19,6 +19,7 @@ pub fn all() -> Vec<(Vec<u8>, Vec<u8>)> {
         .map(|sheet| (card.clone(), sheet.into_bytes()))
         .collect();
     list.extend(refused_cards());
+    list.extend(equal_entries());
     list.push((card, most_records()));
     list.extend(after_the_greatest_chart());
     list
@@ -114,9 +115,7 @@ fn refused_cards() -> Vec<(Vec<u8>, Vec<u8>)> {
             card
         })
         .collect();
-    let mut equal_entries = card.clone();
-    equal_entries.copy_within(12..24, 24);
-    cards.extend([equal_entries, Vec::new()]);
+    cards.push(Vec::new());
     let sheets = [String::new(), format!("{UNREAD}\n"), "\n".repeat(65)];
     cards
         .iter()
@@ -126,6 +125,38 @@ fn refused_cards() -> Vec<(Vec<u8>, Vec<u8>)> {
                 .map(|sheet| (card.clone(), sheet.into_bytes()))
         })
         .collect()
+}
+
+/// Equal entries are accepted: the tomato card with wool spelled as coir is, with both feeds and
+/// both materials alike, and with all its words alike.
+fn equal_entries() -> Vec<(Vec<u8>, Vec<u8>)> {
+    let cards = [
+        (["coir", "coir", "takes", "mild", "rich"], ["coir", "rich"]),
+        (["coir", "coir", "takes", "mild", "mild"], ["coir", "mild"]),
+        (["coir"; 5], ["coir", "coir"]),
+    ];
+    let mut list = Vec::new();
+    for (words, [material, feed]) in cards {
+        let card = CardText {
+            words: words.map(String::from).to_vec(),
+            ..tomato()
+        };
+        let takes = words[2];
+        let short = format!("{material} {takes} {feed}");
+        let long = format!("{material} {material} {takes} {feed} {}", words[3]);
+        let sheets = [
+            String::new(),
+            short.clone(),
+            format!("{short}\n{long}\n"),
+            format!("{long}\n{short}\n{takes}"),
+            format!("{short}\nwool {takes} {feed}\n{long}"),
+            format!("{short}\n\n{long}"),
+            vec![short.as_str(); 64].join("\n"),
+            vec![long.as_str(); 65].join("\n"),
+        ];
+        list.extend(sheets.map(|sheet| (card.bytes(), sheet.into_bytes())));
+    }
+    list
 }
 
 /// 64 lines of eleven pairs each: no sheet has more records.

@@ -1,11 +1,8 @@
 //! A sheet as it has to be read, from the slow implementations.
 
-use crate::expected::{Input, Items, Scratch};
+use crate::expected::{Input, Items, PLAN_ROOM, Scratch};
 use independent::card::Card;
 use independent::sheet;
-
-/// Enough for the plan of any line, so that 32 does not occur.
-pub const PLAN_ROOM: usize = 188;
 
 pub struct Sheet<'a> {
     pub card_bytes: &'a [u8],
@@ -48,6 +45,12 @@ impl<'a> Sheet<'a> {
         Ok(order.iter().map(|&place| &self.different[place]).collect())
     }
 
+    /// Whether some line has several lists of words.
+    pub fn has_several_lists(&self) -> bool {
+        let several = |line: &Line| line.input.has_several_lists();
+        self.different.iter().any(several)
+    }
+
     /// How many items the lines have, each number once, the least first.
     pub fn item_counts(&self) -> Vec<usize> {
         let items = self.different.iter().filter_map(|line| line.items.as_ref());
@@ -65,11 +68,11 @@ impl<'a> Line<'a> {
         Line { input, items }
     }
 
-    /// Read's number for the line, with chart room of this length.
+    /// Read's number for the line, with chart room of this length and plan room enough.
     pub fn number(&self, chart_room: usize) -> u16 {
-        match (&self.input.words, &self.items) {
-            (Ok(words), Some(items)) => items.read_number(words.len(), chart_room, PLAN_ROOM),
-            (words, _) => words.as_ref().err().copied().unwrap_or(0),
+        match (&self.input.line, &self.items) {
+            (Ok(line), Some(items)) => items.read_number(line.len(), chart_room, PLAN_ROOM),
+            (line, _) => line.as_ref().err().copied().unwrap_or(0),
         }
     }
 }

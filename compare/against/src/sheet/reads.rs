@@ -1,8 +1,9 @@
 //! The lines of a sheet read one after the other, in one chart room. Each read is verified, and
 //! starts with what the one before it left.
 
-use super::input::{Line, PLAN_ROOM, Sheet};
+use super::input::{Line, Sheet};
 use crate::calls::Calls;
+use crate::expected::PLAN_ROOM;
 use crate::room::Room;
 use crate::verify;
 use independent::random::Random;

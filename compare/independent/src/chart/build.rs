@@ -35,7 +35,7 @@ pub const MOST_ITEMS: usize = 65_535;
 pub fn build(
     card: &Card,
     sets: &ProductionSets,
-    words: &[u8],
+    words: &[u32],
     room: &mut [[u8; 16]],
 ) -> Result<Chart, Full> {
     let extent = Extent::of(card, words);
@@ -50,7 +50,7 @@ pub fn build(
 fn build_in<const GROUPS: usize, const TAILS: usize>(
     card: &Card,
     sets: &ProductionSets,
-    words: &[u8],
+    words: &[u32],
     room: &mut [[u8; 16]],
     extent: Extent,
 ) -> Result<Chart, Full> {
@@ -72,8 +72,8 @@ fn build_in<const GROUPS: usize, const TAILS: usize>(
         group: Group::default(),
         whole_line: None,
     };
-    for (i, &word) in words.iter().enumerate() {
-        builder.word(i, word)?;
+    for (i, &set) in words.iter().enumerate() {
+        builder.word(i, set)?;
         for start in (0..i).rev() {
             builder.stretch(start, i + 1)?;
         }
@@ -141,11 +141,11 @@ impl<'a, const GROUPS: usize, const TAILS: usize> Builder<'a, GROUPS, TAILS> {
         Record::from_bytes(unsafe { self.room.get_unchecked(position) })
     }
 
-    /// The word steps at place i.
-    fn word(&mut self, i: usize, word: u8) -> Result<(), Full> {
+    /// The word steps at place i, where a set of words can stand.
+    fn word(&mut self, i: usize, words: u32) -> Result<(), Full> {
         let (mut first, mut second) = (0, 0);
         let mut made = 0_u32;
-        let mut rest = self.sets.words[usize::from(word)];
+        let mut rest = self.sets.of_words(words);
         while rest != 0 {
             let production = rest.trailing_zeros() as usize;
             rest &= rest - 1;

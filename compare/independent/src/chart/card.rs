@@ -1,4 +1,4 @@
-//! The card's check, and its words by spelling.
+//! The card's check.
 
 use super::bytes::{HIGH_BITS, LOW_BYTES, letters_and_digits};
 
@@ -11,7 +11,7 @@ pub struct Card<'a> {
 }
 
 impl<'a> Card<'a> {
-    /// The refusals 11 to 16, in this order.
+    /// The refusals 11 to 14 and 16, in this order.
     pub fn accept(card: &'a [u8]) -> Result<Self, u16> {
         let Some((header, tables)) = card.split_first_chunk::<12>() else {
             return Err(11);
@@ -37,9 +37,6 @@ impl<'a> Card<'a> {
         if !words.iter().all(keeps_layout) {
             return Err(14);
         }
-        if has_equal_entries(words) {
-            return Err(15);
-        }
         if !keep_table(productions, n, v, x) {
             return Err(16);
         }
@@ -50,16 +47,10 @@ impl<'a> Card<'a> {
             productions,
         })
     }
-
-    /// The word whose entry is these twelve bytes.
-    pub fn word(&self, entry: u128) -> Option<u8> {
-        let found = self.words.iter().position(|word| packed(word) == entry);
-        found.map(|number| number as u8)
-    }
 }
 
 /// Twelve bytes of an entry as one number, the length byte lowest.
-fn packed(entry: &[u8; 12]) -> u128 {
+pub fn packed(entry: &[u8; 12]) -> u128 {
     let [a, b, c, d, e, f, g, h, rest @ ..] = *entry;
     let low = u64::from_le_bytes([a, b, c, d, e, f, g, h]);
     u128::from(low) | u128::from(u32::from_le_bytes(rest)) << 64
@@ -73,26 +64,6 @@ fn keeps_layout(entry: &[u8; 12]) -> bool {
     let spelling = packed(entry) >> 8;
     let used = LOW_BYTES[length];
     letters_and_digits(spelling) == HIGH_BITS & used && spelling & !used == 0
-}
-
-/// Only words whose mixed bits have been met before are compared with the earlier ones.
-fn has_equal_entries(words: &[[u8; 12]]) -> bool {
-    let mut met = 0_u64;
-    for (number, entry) in words.iter().enumerate() {
-        let entry = packed(entry);
-        let bit = 1 << mixed_bits(entry);
-        if met & bit != 0 && words[..number].iter().any(|other| packed(other) == entry) {
-            return true;
-        }
-        met |= bit;
-    }
-    false
-}
-
-/// Six bits that depend on every byte of an entry.
-fn mixed_bits(entry: u128) -> u64 {
-    let mixed = (entry as u64) ^ ((entry >> 64) as u64).wrapping_mul(0x9E37_79B9_7F4A_7C15);
-    mixed.wrapping_mul(0xD6E8_FEB8_6659_FD93) >> 58
 }
 
 /// For each kind, the bound of B, the bound of C, the least and the greatest index.

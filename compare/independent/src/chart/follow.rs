@@ -37,8 +37,8 @@ struct Node {
 
 const EMPTY_STACK: u8 = 255;
 
-/// The pairs, if the plan is a leftmost derivation of the words.
-pub fn follow(card: &Card, words: &[u8], plan: &[u8]) -> Option<Pairs> {
+/// The pairs, if the plan is a leftmost derivation of a line with these sets of words.
+pub fn follow(card: &Card, words: &[u32], plan: &[u8]) -> Option<Pairs> {
     let (steps, rest) = plan.as_chunks::<4>();
     if !rest.is_empty() || steps.len() != 2 * words.len() - 1 {
         return None;
@@ -51,7 +51,8 @@ pub fn follow(card: &Card, words: &[u8], plan: &[u8]) -> Option<Pairs> {
 }
 
 struct Follower<'a> {
-    words: &'a [u8],
+    /// For each place the words that can stand there, as a set.
+    words: &'a [u32],
     /// Open stretches are disjoint and not empty: there are never more of them than words.
     open: [Open; MOST_WORDS],
     depth: usize,
@@ -61,7 +62,7 @@ struct Follower<'a> {
 
 impl<'a> Follower<'a> {
     #[inline(always)]
-    fn new(words: &'a [u8]) -> Self {
+    fn new(words: &'a [u32]) -> Self {
         let mut open = [Open::default(); MOST_WORDS];
         open[0] = Open {
             nonterminal: 0,
@@ -92,8 +93,8 @@ impl<'a> Follower<'a> {
         }
         if kind == 0 {
             let stretch_fits = k == j && j - i == 1;
-            let fits = stretch_fits && open.stack == EMPTY_STACK && self.words[usize::from(i)] == b;
-            return fits.then_some(());
+            let is_spelled_so = self.words[usize::from(i)] >> b & 1 == 1;
+            return (stretch_fits && open.stack == EMPTY_STACK && is_spelled_so).then_some(());
         }
         if k <= i || k >= j {
             return None;

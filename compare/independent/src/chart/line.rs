@@ -1,49 +1,45 @@
-//! The words of a line, sixty-four bytes at a time.
+//! The words of a line, sixty-four bytes at a time, and for each place the set of words spelled so.
 
 use super::bytes::{HIGH, equal_to, gathered, spelled};
-use super::card::Card;
+use super::spellings::Spellings;
 
 pub const MOST_WORDS: usize = 24;
 
-/// Word numbers of an accepted line.
-pub struct Words {
-    numbers: [u8; MOST_WORDS],
-    count: usize,
+/// For each place the words with its spelling, as a set of word numbers. A card has at most 32
+/// words, so each set is one number. A caller lends the room for them, since moving it costs time.
+pub type WordSets = [u32; MOST_WORDS];
+
+/// The places of the line, or the refusals 22, 21, 23 and 24, in this order.
+pub fn places<'a>(
+    spellings: &Spellings,
+    line: &[u8],
+    sets: &'a mut WordSets,
+) -> Result<&'a [u32], u16> {
+    let mut reader = Reader {
+        spellings,
+        line,
+        sets,
+        count: 0,
+        all_known: true,
+        word_start: None,
+    };
+    let mut before = 0;
+    for (number, block) in line.chunks(64).enumerate() {
+        let inside = inside_words(block)?;
+        reader.edges(inside ^ (inside << 1 | before), 64 * number);
+        before = inside >> 63;
+    }
+    reader.edges(before, line.len());
+    let count = reader.finish()?;
+    Ok(&sets[..count])
 }
 
-impl Words {
-    /// The refusals 22, 21, 23 and 24, in this order.
-    pub fn accept(card: &Card, line: &[u8]) -> Result<Self, u16> {
-        let mut reader = Reader {
-            card,
-            line,
-            words: Words {
-                numbers: [0; MOST_WORDS],
-                count: 0,
-            },
-            all_known: true,
-            word_start: None,
-        };
-        let mut before = 0;
-        for (number, block) in line.chunks(64).enumerate() {
-            let inside = inside_words(block)?;
-            reader.edges(inside ^ (inside << 1 | before), 64 * number);
-            before = inside >> 63;
-        }
-        reader.edges(before, line.len());
-        reader.finish()
-    }
-
-    pub fn numbers(&self) -> &[u8] {
-        &self.numbers[..self.count]
-    }
-}
-
-/// Words met so far: the first 24 are kept, all are counted.
+/// Words met so far: the sets of the first 24 are kept, all are counted.
 struct Reader<'a> {
-    card: &'a Card<'a>,
+    spellings: &'a Spellings<'a>,
     line: &'a [u8],
-    words: Words,
+    sets: &'a mut WordSets,
+    count: usize,
     all_known: bool,
     word_start: Option<usize>,
 }
@@ -62,21 +58,20 @@ impl Reader<'_> {
     }
 
     fn word(&mut self, bytes: &[u8]) {
-        if let Some(number) = self.words.numbers.get_mut(self.words.count) {
-            match entry(bytes).and_then(|entry| self.card.word(entry)) {
-                Some(word) => *number = word,
-                None => self.all_known = false,
-            }
+        if let Some(set) = self.sets.get_mut(self.count) {
+            *set = entry(bytes).map_or(0, |entry| self.spellings.words(entry));
+            self.all_known &= *set != 0;
         }
-        self.words.count += 1;
+        self.count += 1;
     }
 
-    fn finish(self) -> Result<Words, u16> {
-        match self.words.count {
+    /// How many there are.
+    fn finish(&self) -> Result<usize, u16> {
+        match self.count {
             0 => Err(21),
             count if count > MOST_WORDS => Err(23),
             _ if !self.all_known => Err(24),
-            _ => Ok(self.words),
+            count => Ok(count),
         }
     }
 }

@@ -4,8 +4,9 @@
 use super::card::Card;
 use super::cut::{Ends, MOST_LINES};
 use super::follow::{Pairs, follow};
-use super::line::{MOST_WORDS, Words};
+use super::line::{MOST_WORDS, places};
 use super::read_words;
+use super::spellings::Spellings;
 use super::unset::Unset;
 use super::uses::ProductionSets;
 use crate::answers::SheetAnswer;
@@ -66,12 +67,16 @@ fn read_lines(
     let before_any_line = |number| SheetAnswer::refused(number, 0);
     let card = Card::accept(card).map_err(before_any_line)?;
     let ends = Ends::of(sheet).map_err(before_any_line)?;
+    let mut spellings = Spellings::empty(card.words);
+    spellings.add_all();
     let mut sets = ProductionSets::empty();
     sets.add_all(&card);
     let mut start = 0;
     for (line, &end) in ends.as_slice().iter().enumerate() {
         let line = line as u8;
-        let pairs = pairs(&card, &sets, &sheet[start..end], chart)
+        let mut words = [0; MOST_WORDS];
+        let pairs = places(&spellings, &sheet[start..end], &mut words)
+            .and_then(|words| pairs(&card, &sets, words, chart))
             .map_err(|number| SheetAnswer::refused(number, line))?;
         records.add(line, pairs.as_slice());
         start = end + 1;
@@ -80,13 +85,17 @@ fn read_lines(
 }
 
 /// The pairs of one line, or its refusal.
-fn pairs(card: &Card, sets: &ProductionSets, line: &[u8], chart: &mut [u8]) -> Result<Pairs, u16> {
-    let words = Words::accept(card, line)?;
+fn pairs(
+    card: &Card,
+    sets: &ProductionSets,
+    words: &[u32],
+    chart: &mut [u8],
+) -> Result<Pairs, u16> {
     let mut plan = [0; PLAN_ROOM];
-    let answer = read_words(card, sets, words.numbers(), chart, &mut plan)?;
+    let answer = read_words(card, sets, words, chart, &mut plan)?;
     if answer.number != 0 {
         return Err(answer.number);
     }
     let plan = &plan[..4 * usize::from(answer.steps)];
-    Ok(follow(card, words.numbers(), plan).expect("what was unfolded can be followed"))
+    Ok(follow(card, words, plan).expect("what was unfolded can be followed"))
 }

@@ -23,7 +23,7 @@ pub struct Extent {
 }
 
 impl Extent {
-    pub fn of(card: &Card, words: &[u8]) -> Self {
+    pub fn of(card: &Card, words: &[u32]) -> Self {
         let groups = card.nonterminals * stretches(words.len());
         Extent {
             groups,

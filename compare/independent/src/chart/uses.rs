@@ -85,6 +85,17 @@ impl ProductionSets {
         }
     }
 
+    /// Word productions of a set of words.
+    pub fn of_words(&self, words: u32) -> u64 {
+        let mut productions = 0;
+        let mut rest = words;
+        while rest != 0 {
+            productions |= self.words[rest.trailing_zeros() as usize];
+            rest &= rest - 1;
+        }
+        productions
+    }
+
     /// Productions whose index is in a set of indices.
     pub fn indexed_by(&self, indices: u32) -> u64 {
         let mut productions = 0;
