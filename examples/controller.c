@@ -85,7 +85,10 @@ static void print_line(size_t place)
     printf("\"\n");
 }
 
-/* The spelling is taken from the line itself: each of its words stands on the card as it is. */
+/*
+ * The spelling is taken from the line itself: each of its words stands on the card as it is. Where
+ * several entries have it, a record does not say which of them is meant: see line-by-line.c.
+ */
 static void print_word(struct text line, size_t place)
 {
     struct text word = word_at(line, place);

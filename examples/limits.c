@@ -270,13 +270,98 @@ static void card_limits(void)
     try_card(138, 137, 1);
 }
 
-/* The second word becomes the first one's twin; 14 is looked for before 15, and 15 before 16. */
-static void same_words(void)
+/* As which word each place was read, from the plan that try_read left last. */
+static void print_words(uint64_t answer)
 {
+    const uint8_t *productions = card + card[10] + 256 * card[11];
+    printf("read as");
+    for (size_t k = 0; k < lig_steps(answer); k++) {
+        const uint8_t *production = productions + 6 * plan_area[MARGIN + LIG_STEP_BYTES * k];
+        if (production[0] == 0)
+            printf(" %u", production[2]);
+    }
+    printf("\n");
+}
+
+/*
+ * The second word is spelled as the first. All calls take such a card, and a place is read as the
+ * one or the other. A spelling that an entry only starts with, or that only starts with an entry,
+ * is still unknown.
+ */
+static void two_alike(void)
+{
+    printf("== words 0 and 1 are both \"coir\"\n");
     memcpy(card + 24, card + 12, 12);
     try_card(138, 0, 'L');
+    for (size_t word = 0; word <= 1; word++)
+        try_name(word);
+    print_words(try_read("coir takes rich", 96, 20));
+    print_words(try_read("coir coir takes rich mild", 192, 36));
+    try_read("coir takes mild", 95, 20);
+    try_read("coir coir takes mild", 128, 28);
+    try_read("wool takes rich", 96, 20);
+    try_read("coi takes mild", 96, 20);
+    try_read("coirs takes mild", 96, 20);
+    print_words(try_read("coir takes mild", 96, 20));
+    try_plan("coir takes mild", 20, 0, 7, 2);
+    try_plan("coir takes mild", 20, 4, 1, 2);
+    try_sheet("coir takes mild\ncoir takes rich", 96, 6);
+    try_sheet("coir takes mild\nwool takes rich", 96, 6);
+}
+
+/*
+ * Both words make the same nonterminal: there is one item for it, and a plan may say either. Which
+ * one lig_read says is free.
+ */
+static void two_for_one(void)
+{
+    printf("== both words make nonterminal 2\n");
+    card[79] = card[73];
+    try_read("coir takes mild", 79, 20);
+    try_read("coir takes mild", 80, 20);
+    try_plan("coir takes mild", 20, 4, 0, 2);
+    try_plan("coir takes mild", 20, 4, 1, 2);
+    try_plan("coir takes mild", 20, 4, 2, 2);
+}
+
+/* Entries that are spelled alike hide no fault: 14, then 16. */
+static void faults_beside(void)
+{
+    printf("== with a fault beside\n");
     try_card(138, 71, 1);
     try_card(138, 137, 1);
+    printf("== with byte 137 at 1\n");
+    card[137] = 1;
+    try_card(138, 71, 1);
+}
+
+/* As many words as there may be, all of them "mild", and a production for the last one alone. */
+static void all_alike(void)
+{
+    static const uint8_t header[12] = { 'L', 'I', 'G', '1', 1, 32, 0, 1, 12, 0, 140, 1 };
+    static const uint8_t entry[12] = { 4, 'm', 'i', 'l', 'd' };
+    static const uint8_t production[6] = { 0, 0, 31 };
+    printf("== words 0 to 31 are all \"mild\", and word 31 alone has a production\n");
+    memcpy(card, header, sizeof header);
+    for (size_t word = 0; word < 32; word++)
+        memcpy(card + 12 + 12 * word, entry, sizeof entry);
+    memcpy(card + 396, production, sizeof production);
+    card_length = 402;
+    try_card(402, 0, 'L');
+    try_name(0);
+    try_name(31);
+    try_name(32);
+    try_read("mild", 15, 4);
+    try_read("mil", 16, 4);
+    try_read("milds", 16, 4);
+    try_read("mild mild", 32, 12);
+    print_words(try_read("mild", 16, 4));
+    try_plan("mild", 4, 0, 0, 0);
+    try_plan("mild", 4, 0, 1, 0);
+    try_sheet("mild\nmild\n", 16, 0);
+    printf("== word 0 alone has a production\n");
+    card[398] = 0;
+    print_words(try_read("mild", 16, 4));
 }
 
 int main(int argc, char **argv)
@@ -298,6 +383,9 @@ int main(int argc, char **argv)
     sheet_rooms();
     many_lines();
     card_limits();
-    same_words();
+    two_alike();
+    two_for_one();
+    faults_beside();
+    all_alike();
     return fflush(stdout) == 0 && !ferror(stdout) ? 0 : 2;
 }

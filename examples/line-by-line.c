@@ -89,9 +89,10 @@ static unsigned read_order(void)
 }
 
 /*
- * The number of the word at a place of the line. The plan, which has passed, has one step for it,
- * and the production of that step is of kind 0 and holds the number. Without such a step: a number
- * that lig_name refuses.
+ * The number of the word that a place of the line was read as. The plan, which has passed, has one
+ * step for it, and the production of that step is of kind 0 and holds the number; the spelling
+ * alone would not do, since the card may have it several times. Without such a step: a number that
+ * lig_name refuses.
  */
 static size_t word_at(uint8_t place)
 {

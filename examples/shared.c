@@ -33,7 +33,6 @@ const char *refusal_reason(unsigned number)
     case LIG_CARD_COUNTS: return "a count of the card is outside its limits";
     case LIG_CARD_LENGTHS: return "the card's length does not fit its counts";
     case LIG_CARD_ENTRY: return "a word of the card is badly written";
-    case LIG_CARD_SAME_WORD: return "the card has a word twice";
     case LIG_CARD_PRODUCTION: return "a production of the card is badly written";
     case LIG_LINE_BYTE: return "only a to z, 0 to 9 and spaces are allowed";
     case LIG_LINE_EMPTY: return "there is no word";

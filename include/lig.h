@@ -49,14 +49,15 @@ extern "C" {
  * Version
  *
  * The major number rises when a call answers or writes something else than before for some input,
- * or takes other arguments; the minor one when a call or a macro is added, or a call wants more
- * stack; the patch with any other change. So a request of document 02 that changes an answer or a
- * layout raises the major number, and one that only adds a call the minor one.
+ * or takes other arguments, or when a macro goes; the minor one when a call or a macro is added, or
+ * a call wants more stack; the patch with any other change. So a request of document 02 that
+ * changes an answer or a layout raises the major number, and one that only adds a call the minor
+ * one.
  */
-#define LIG_VERSION_MAJOR 1
-#define LIG_VERSION_MINOR 1
+#define LIG_VERSION_MAJOR 2
+#define LIG_VERSION_MINOR 0
 #define LIG_VERSION_PATCH 0
-#define LIG_VERSION "1.1.0"
+#define LIG_VERSION "2.0.0"
 
 /*
  * Refusals
@@ -67,19 +68,21 @@ extern "C" {
  */
 #define LIG_OK 0
 
-/* The nursery that wrote the card. They are tried in this order, each over the whole card. */
+/*
+ * The nursery that wrote the card. They are tried in this order, each over the whole card. 15, once
+ * the number for two entries spelled alike, no longer occurs: a card may have them.
+ */
 #define LIG_CARD_MARK 11       /* fewer than 12 bytes, or they do not start with "LIG1" */
 #define LIG_CARD_COUNTS 12     /* a count of the header is outside its limits */
 #define LIG_CARD_LENGTHS 13    /* a table's offset or the card's length does not fit the counts */
 #define LIG_CARD_ENTRY 14      /* a word's entry: its length, a letter or its padding is wrong */
-#define LIG_CARD_SAME_WORD 15  /* two entries are the same word */
 #define LIG_CARD_PRODUCTION 16 /* a production has a wrong kind, name, word, index or zero */
 
 /* The shift leader who typed the line. They are tried in this order, NO_READING last of all. */
 #define LIG_LINE_BYTE 22       /* a byte that is not a to z, 0 to 9 or a space */
 #define LIG_LINE_EMPTY 21      /* no word */
 #define LIG_LINE_LONG 23       /* more than LIG_MOST_WORDS words */
-#define LIG_LINE_WORD 24       /* a word that is not on the card */
+#define LIG_LINE_WORD 24       /* a word that no entry of the card is spelled as */
 #define LIG_LINE_NO_READING 25 /* the words are known, and no derivation comes to them */
 #define LIG_SHEET_LONG 41      /* a sheet of more than LIG_MOST_LINES lines; before its lines */
 
@@ -186,7 +189,7 @@ static inline size_t lig_records(uint64_t answer)
 /*
  * lig_card_check: is this a card?
  *
- * Answers LIG_OK, or the first of 11, 12, 13, 14, 15, 16 whose condition holds. No part beside the
+ * Answers LIG_OK, or the first of 11, 12, 13, 14, 16 whose condition holds. No part beside the
  * number. The other calls make this check themselves, before anything else.
  */
 uint64_t lig_card_check(const uint8_t *card, size_t card_length);
@@ -206,10 +209,16 @@ uint64_t lig_card_check(const uint8_t *card, size_t card_length);
  * LIG_OK is answered only with a derivation of the line. 25 is answered only where there is none.
  * A known line that has one is read whenever both rooms are long enough.
  *
+ * Several entries of the card may be spelled alike. A word of the line then stands for each of
+ * them, at each place anew: a derivation of the line ends in any list of words whose spellings are
+ * the line's. Which word a place was read as stands in the plan: the production of that place's
+ * word step has its number.
+ *
  * Items counts the derivable items of the line, all of them, also with 25. A chart room of L bytes
  * holds L / 16 items, rounded down, and never more than 65,535; 31 says that there are more.
  *
- * The chart is one record of 16 bytes for each derivable item, each item once:
+ * The chart is one record of 16 bytes for each derivable item, each item once, however many words
+ * or other steps give it:
  *
  *     byte 0       nonterminal A              byte 7        production of the recorded step
  *     byte 1       index, 0 for none          bytes 8-9     position of its side
@@ -233,8 +242,8 @@ uint64_t lig_card_check(const uint8_t *card, size_t card_length);
  *   - the order of the records; each stands after those that it names
  *   - which step a record holds where several derive its item; it is one that does
  *   - which item of its dependent's stretch a taking step names; a plan need not go on there
- *   - which derivation the plan is where the line has several; lig_check passes it for this card
- *     and this line
+ *   - which derivation the plan is where the line has several, and so as which of the words spelled
+ *     alike a place is read; lig_check passes it for this card and this line
  */
 uint64_t lig_read(const uint8_t *card, size_t card_length,
                   const uint8_t *line, size_t line_length,
@@ -246,8 +255,9 @@ uint64_t lig_read(const uint8_t *card, size_t card_length,
  *
  * The plan is all plan_length bytes: pass LIG_STEP_BYTES * steps, not the length of its room. It
  * may come from anywhere. Answers LIG_OK exactly where its steps in their order, each replacing the
- * leftmost nonterminal, derive the line and every from, split and to is right. Else the first of:
- * the card's 11 to 16; the line's 22, 21, 23, 24; 34. No part beside the number.
+ * leftmost nonterminal, derive the line and every from, split and to is right; the word of a step
+ * may be any that is spelled as the line's word at that place. Else the first of: the card's
+ * 11 to 16; the line's 22, 21, 23, 24; 34. No part beside the number.
  */
 uint64_t lig_check(const uint8_t *card, size_t card_length,
                    const uint8_t *line, size_t line_length,
@@ -272,8 +282,10 @@ uint64_t lig_pairs(const uint8_t *card, size_t card_length,
 /*
  * lig_name: where does the card spell this word?
  *
- * The word is given by its number, which counts the words of the card from 0. For the word at a
- * place of a line, examples/line-by-line.c shows how its number is found in the plan.
+ * The word is given by its number, which counts the words of the card from 0. Words that are
+ * spelled alike have numbers of their own, and each is answered with its own entry. For the word
+ * that a place of a line is read as, examples/line-by-line.c shows how its number is found in the
+ * plan.
  *
  * Refusals, in this order: the card's 11 to 16; then 35, for a number that is not below the card's
  * count of words. With LIG_OK the spelling is lig_length bytes, 1 to 11, from card + lig_offset on:
@@ -306,7 +318,9 @@ uint64_t lig_name(const uint8_t *card, size_t card_length, size_t word);
  *
  * There is a record for each pair of each line, in the order of the lines and then of the pairs:
  * the line's place, counted from 0, and the two bytes of the pair. The bytes past the records are
- * untouched. A sheet of no lines is accepted, with no records.
+ * untouched. A sheet of no lines is accepted, with no records. Where entries are spelled alike, a
+ * record does not say which word a place was read as. If that matters, read line by line: the plan
+ * that lig_read writes says it.
  *
  * Free: what is free with lig_read, for each line. So which pairs a line has is free where it has
  * several derivations; they are those of one plan of it, which lig_check passes.
@@ -324,18 +338,18 @@ uint64_t lig_sheet(const uint8_t *card, size_t card_length,
  * and the arguments on the stack included:
  *
  *     line of        1 to 6 words   7 to 12 words   13 to 24 words
- *     lig_card_check      88              88              88
+ *     lig_card_check      96              96              96
  *     lig_read        14,792          15,936          63,272
  *     lig_read/few    14,792          15,936          36,280
- *     lig_check        1,176           1,176           1,176
- *     lig_pairs        1,256           1,256           1,256
- *     lig_name           104             104             104
+ *     lig_check        1,256           1,256           1,256
+ *     lig_pairs        1,336           1,336           1,336
+ *     lig_name           112             112             112
  *     lig_sheet       17,256          18,400          65,736
  *     lig_sheet/few   17,256          18,400          38,744
  *
  * lig_read/few and lig_sheet/few are these calls with a card of at most 6 nonterminals. Of a sheet
  * the longest line counts, and not how many lines there are. Under a card that is accepted lig_read
- * takes at least 13,504 of them, also for a line that it refuses. lig_sheet takes 2,464 more than
+ * takes at least 13,584 of them, also for a line that it refuses. lig_sheet takes 2,464 more than
  * lig_read, in every column: it keeps the records of all lines until the last line is read. The
  * figures below have at least 128 bytes to spare, as much as a function may use below the stack
  * pointer. Interrupts that run on the same stack come on top.
@@ -361,7 +375,7 @@ uint64_t lig_sheet(const uint8_t *card, size_t card_length,
 #define LIG_STACK_READ 63872
 #define LIG_STACK_READ_FEW 36864 /* with a card of at most 6 nonterminals */
 #define LIG_STACK_CHECK 1408
-#define LIG_STACK_PAIRS 1408
+#define LIG_STACK_PAIRS 1536
 #define LIG_STACK_NAME 512
 #define LIG_STACK_SHEET 66432
 #define LIG_STACK_SHEET_FEW 39424 /* with a card of at most 6 nonterminals */

@@ -101,3 +101,14 @@ pub fn tomato() -> [u8; 1024] {
 pub fn largest() -> [u8; 1024] {
     made(true)
 }
+
+// The largest card with every word spelled as the first.
+pub fn alike() -> [u8; 1024] {
+    let mut card = largest();
+    let mut i = 0;
+    while i < 372 {
+        card[24 + i] = entry_byte(0, i % 12);
+        i += 1;
+    }
+    card
+}

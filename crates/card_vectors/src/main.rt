@@ -1,10 +1,11 @@
 // Prints what the card's functions answer for cards at the edges of document 01's layout, each made from the tomato card or the
-// largest one by changing bytes. The file `stdout` was computed from the document's text by other means.
+// largest one by changing bytes. The file `stdout` was computed from the text of documents 01 and 02 by other means.
 mod cards;
 mod names;
 mod print;
 mod productions;
 
+use cards::alike;
 use cards::largest;
 use cards::tomato;
 use cards::with;
@@ -87,7 +88,8 @@ fn kinds() {
     kind(255, 5, 2);
 }
 
-// The second word spelled as the first: alone, cut to "coi", with a byte after its end, and with another last letter.
+// Words may be spelled alike, and hide no other fault. The second word spelled as the first: alone, cut to "coi", with a byte after its
+// end, and with another last letter.
 fn equal_words() {
     print::text(b"coir twice\n");
     let twice = with(with(with(tomato(), 25, b'c'), 27, b'i'), 28, b'r');
@@ -105,6 +107,13 @@ fn equal_words() {
     let wool = with(with(tomato(), 61, b'w'), 62, b'o');
     change(wool, 63, b'o', 64, b'h', 138);
     change(wool, 63, b'o', 64, b'l', 138);
+    // 32 words: alone, with a fault of 14 in the last entry, of 16 in the last production, and of both.
+    print::text(b"all alike\n");
+    let same = alike();
+    change(same, 4, 16, 5, 32, 780);
+    change(same, 384, 0, 384, 0, 780);
+    change(same, 779, 1, 779, 1, 780);
+    change(same, 384, 12, 779, 1, 780);
 }
 
 // Several faults: the refusal that comes first in the document's order is given.

@@ -1,4 +1,5 @@
 // Name, number and part, for known and unknown words and for refused cards.
+use crate::cards::alike;
 use crate::cards::largest;
 use crate::cards::tomato;
 use crate::cards::with;
@@ -33,4 +34,7 @@ pub fn all() {
     name(with(tomato(), 72, 7), 138, 1);
     name(largest(), 780, 31);
     name(largest(), 780, 32);
+    name(alike(), 780, 0);
+    name(alike(), 780, 31);
+    name(alike(), 780, 32);
 }

@@ -1,5 +1,8 @@
-// Prints what `accept` answers for stored lines over the tomato card, and for cards that are refused: the number, the count of words
-// and the set of the words at each of the 24 places. The file `stdout` was computed from the document's text by other means.
+// Prints what `accept` answers for stored lines over the tomato card, over cards with words spelled alike, and for cards that are
+// refused: the number, the count of words and the set of the words at each of the 24 places. The file `stdout` was computed from the
+// text of documents 01 and 02 by other means.
+mod sets;
+
 use line::Accepted;
 use line::accept;
 use places::MOST_WORDS;
@@ -37,15 +40,20 @@ fn print(r: Accepted) {
     end_line();
 }
 
-// The lines of a text, each ended by hex 0A, over the tomato card.
-fn show(text: &[u8]) {
-    let card = TOMATO;
+// The lines of a text, each ended by hex 0A, over a card.
+pub fn show_over(card: &[u8], text: &[u8]) {
     let mut at = 0;
     while at < text.len() {
         let end = line_end(text, at);
-        print(accept(&card, &text[at..end]));
+        print(accept(card, &text[at..end]));
         at = end + 1;
     }
+}
+
+// Over the tomato card.
+fn show(text: &[u8]) {
+    let card = TOMATO;
+    show_over(&card, text);
 }
 
 // No word, one and more, up to the limit; spaces at the ends, doubled and alone.
@@ -107,11 +115,14 @@ fn words() {
 
 fn alike() {
     let card = ALIKE;
-    print(accept(&card, b"abcdefghij0 ab a ab"));
-    print(accept(&card, b"abc"));
-    print(accept(&card, b"abcdefghij"));
-    print(accept(&card, b"abcdefghij01"));
-    print(accept(&card, b"a b"));
+    show_over(
+        &card,
+        b"abcdefghij0 ab a ab\n\
+        abc\n\
+        abcdefghij\n\
+        abcdefghij01\n\
+        a b\n",
+    );
 }
 
 // The number of each line of one byte, in one row.
@@ -137,17 +148,20 @@ fn order() {
     );
 }
 
-// Cards with one fault more each time, the last refusal of the six first; the line has a fault too.
+// Cards with one fault more each time, the last refusal of the five first; the line has a fault too. Two entries spelled alike are no
+// fault.
 fn cards() {
     let line = b"coir Takes";
     let mut card = TOMATO;
     print(accept(b"", line));
     print(accept(&card[..137], line));
-    card[72] = 7;
-    print(accept(&card, line));
     card[25] = b'c';
     card[27] = b'i';
     card[28] = b'r';
+    print(accept(&card, line));
+    print(accept(&card, b"coir takes mild"));
+    print(accept(&card, b"wool takes rich"));
+    card[72] = 7;
     print(accept(&card, line));
     card[24] = 0;
     print(accept(&card, line));
@@ -168,4 +182,5 @@ fn main() {
     every_byte();
     order();
     cards();
+    sets::all();
 }

@@ -3,23 +3,20 @@
 use Prim.Native.Nat.{_+_, _≤_, _-_}
 use borrow.Author.Needs.{needs}
 use lib.ListN.{length}
-use Rattle.line_vectors.proofs.show.Statement.{statement}
-use Rattle.line_vectors.proofs.show.Tie as tie
+use Rattle.line_vectors.proofs.show_over.Statement.{statement}
+use Rattle.line_vectors.proofs.show_over.Tie as tie
 
 abbrev Inv-loop : tie.InvT-loop
-Inv-loop text card at₀ at = at ≤ length text + 1
+Inv-loop card text at₀ at = at ≤ length text + 1
 
 abbrev μ-loop : tie.MeasureT-loop
-μ-loop text card at₀ at = length text + 1 - at
+μ-loop card text at₀ at = length text + 1 - at
 
 loop-holds : tie.Need-loop-holds Inv-loop μ-loop
 loop-holds c = search needs
 
 line-end-requires : tie.Need-line-end-requires Inv-loop μ-loop
 line-end-requires c κs = search needs
-
-slice-aggregate-accept : tie.Need-slice-aggregate-accept Inv-loop μ-loop
-slice-aggregate-accept c = search needs
 
 sub-accept : tie.Need-sub-accept Inv-loop μ-loop
 sub-accept c = search needs
@@ -48,15 +45,14 @@ loop-again c = search needs
 returns : tie.Need-returns Inv-loop μ-loop
 returns c = search needs
 
-pub show-spec : {M : Type 1} → statement M
-show-spec =
+pub show-over-spec : {M : Type 1} → statement M
+show-over-spec =
     tie.close
     (tie.spec
     Inv-loop
     μ-loop
     loop-holds
     line-end-requires
-    slice-aggregate-accept
     sub-accept
     part-accept-start
     part-accept-end
