@@ -6,8 +6,8 @@ use mathlib.Core.Bool.{Bool, true, false, _&&_, _||_, false≢true}
 use mathlib.Core.List.{List, [], _∷_, _++_}
 use lib.Dec.{leb}
 use lib.ListN.{length, drop, length-take, length-drop, take-append-drop}
-use lib.Seq.{take-suc, drop-drop, getD-drop}
-use borrow.Author.Tests.{leb-true, ne-eqb}
+use lib.Seq.{take-suc, take-add, drop-drop, getD-drop}
+use borrow.Author.Tests.{leb-true, le-leb, ne-eqb}
 use Rattle.layout.specs.Bytes.{byteAt, isLetter, allBytes}
 use Rattle.layout.specs.Line.{space, isLineByte}
 use Rattle.line.specs.Words.{part, Letters, PastLetters}
@@ -79,6 +79,20 @@ letters-more {line} {at} {i} s h e =
           rw (part-more line at i (s .after) h)
           (all-append isLetter (part line at i) (byteAt line i ∷ []) (s .letters) (rw e));
     }
+
+pub letters-join : {line : List ℕ} {at i stop : ℕ} → Letters line at i → Letters line i stop → Letters line at stop
+letters-join {line} {at} {i} {stop} s t =
+    let sum : stop - at ≡ i - at + (stop - i) = omega (arith, s .after, t .after) in
+    let place : at + (i - at) ≡ i = omega (arith, s .after) in
+    record {
+      after = omega (arith, s .after, t .after);
+      within = t .within;
+      letters =
+          rw (sum, take-add, drop-drop, place) (all-append isLetter (part line at i) (part line i stop) (s .letters) (t .letters));
+    }
+
+pub small-letter : (b : ℕ) → 0x61 ≤ b → b ≤ 0x7A → isLetter b ≡ true
+small-letter b low high = rw (le-leb 0x61 b low, le-leb b 0x7A high)
 
 pub past-here : {line : List ℕ} {at i : ℕ} → Letters line at i → isLetter (byteAt line i) ≡ false → PastLetters line at i
 past-here s e = record { taken = s; stops = λ h. e }

@@ -2,7 +2,7 @@
 use octets::is_letter;
 ghost use Prim.Native.Nat.{_≤_};
 ghost use lib.ListN.{length};
-ghost use Rattle.line.specs.Words.{WordStarts, PastLetters};
+ghost use Rattle.line.specs.Words.{WordStarts, Letters, PastLetters};
 
 pub const SPACE: u8 = 0x20;
 
@@ -21,17 +21,36 @@ pub fn word_start(line: &[u8], at: usize) -> usize
     i
 }
 
-// Past the letters that stand at `at`.
+// Past the letters a to z that stand at `at`. Most words are one such run, and its loop has one test for a byte.
+fn past_small(line: &[u8], at: usize) -> usize
+    requires { ⌜ at ≤ length (now line) ⌝ }
+    ensures { λ r. ⌜ Letters (now (line .entry)) at r ⌝ }
+{
+    let mut end = at;
+    while end < line.len() {
+        let b = line[end];
+        if b < b'a' {
+            return end;
+        }
+        if b'z' < b {
+            return end;
+        }
+        end += 1;
+    }
+    end
+}
+
+// Past the letters that stand at `at`: runs of a to z, with digits between them.
 pub fn word_end(line: &[u8], at: usize) -> usize
     requires { ⌜ at ≤ length (now line) ⌝ }
     ensures { λ r. ⌜ PastLetters (now (line .entry)) at r ⌝ }
 {
-    let mut end = at;
+    let mut end = past_small(line, at);
     while end < line.len() {
         if !is_letter(line[end]) {
             return end;
         }
-        end += 1;
+        end = past_small(line, end + 1);
     }
     end
 }

@@ -1,11 +1,12 @@
--- Letters stand from `at` up to `end`; the first other byte ends them, or the line.
+-- Letters stand from `at` up to `end`, run after run; the first other byte ends them, or the line.
 use Prim.Native.Nat.{_-_}
+use native.Mathlib.Omega.{arith}
 use mathlib.Core.Path.{sym, _∙_}
 use borrow.Author.Needs.{needs}
 use lib.ListN.{length}
 use Rattle.layout.proofs.TestLaws.{unless-true, unless-false}
 use Rattle.line.specs.Words.{Letters}
-use Rattle.line.proofs.LetterLaws.{letters-none, letters-more, past-here, past-line}
+use Rattle.line.proofs.LetterLaws.{letters-more, letters-join, past-here, past-line}
 use Rattle.line.proofs.cut.word_end.Statement.{statement}
 use Rattle.line.proofs.cut.word_end.Tie as tie
 
@@ -15,8 +16,11 @@ Inv-loop line at end₀ end = Letters line at end
 abbrev μ-loop : tie.MeasureT-loop
 μ-loop line at end₀ end = length line - end
 
+past-small-requires : tie.Need-past-small-requires Inv-loop μ-loop
+past-small-requires c κs = c .before .pre
+
 loop-holds : tie.Need-loop-holds Inv-loop μ-loop
-loop-holds c = letters-none (c .before .pre)
+loop-holds c = c .past-small .ensures
 
 shared-slice-read-is-letter : tie.Need-shared-slice-read-is-letter Inv-loop μ-loop
 shared-slice-read-is-letter c = search needs
@@ -28,16 +32,21 @@ returns : tie.Need-returns Inv-loop μ-loop
 returns c =
     past-here (c .before .before .before .before .loop .inv) (sym (c .before .is-letter .ensures) ∙ unless-true _ λ e. cc (e, c .if1 .taken))
 
-add-end : tie.Need-add-end Inv-loop μ-loop
-add-end c = search needs
+add-past-small : tie.Need-add-past-small Inv-loop μ-loop
+add-past-small c = search needs
+
+past-small-requires-2 : tie.Need-past-small-requires-2 Inv-loop μ-loop
+past-small-requires-2 c κs = omega (arith, c .before .before .before .loop-test .taken)
 
 loop-less : tie.Need-loop-less Inv-loop μ-loop
-loop-less c = search needs
+loop-less c = omega (arith, c .past-small2 .ensures .after, c .before .before .before .before .loop-test .taken)
 
 loop-again : tie.Need-loop-again Inv-loop μ-loop
 loop-again c =
-    letters-more (c .before .before .before .before .loop .inv) (c .before .before .before .loop-test .taken)
-    (sym (c .before .is-letter .ensures) ∙ unless-false _ λ e. cc (e, c .if1 .left))
+    letters-join
+    (letters-more (c .before .before .before .before .before .loop .inv) (c .before .before .before .before .loop-test .taken)
+    (sym (c .before .before .is-letter .ensures) ∙ unless-false _ λ e. cc (e, c .before .if1 .left)))
+    (c .past-small2 .ensures)
 
 returns-2 : tie.Need-returns-2 Inv-loop μ-loop
 returns-2 c = past-line (c .before .loop .inv) (c .loop-test .left)
@@ -48,11 +57,13 @@ word-end-spec =
     (tie.spec
     Inv-loop
     μ-loop
+    past-small-requires
     loop-holds
     shared-slice-read-is-letter
     is-letter-requires
     returns
-    add-end
+    add-past-small
+    past-small-requires-2
     loop-less
     loop-again
     returns-2)
