@@ -358,12 +358,12 @@ uint64_t lig_sheet(const uint8_t *card, size_t card_length,
  * cards and lines. The longest median that one run saw, on two cores of a virtual machine (AMD
  * EPYC) with nothing else running, and the workload that took it:
  *
- *     lig_card_check          657   limits, 780 bytes
- *     lig_read         22,814,130   worst found, 24 words
- *     lig_check             3,870   limits, 23 words
- *     lig_pairs             4,117   limits, 23 words
- *     lig_name                582   limits, 780 bytes
- *     lig_sheet        25,180,987   sheet of 64: ambiguous, 24 words
+ *     lig_card_check          355   limits, 780 bytes
+ *     lig_read         23,053,382   worst found, 24 words
+ *     lig_check             2,381   limits, 23 words
+ *     lig_pairs             2,439   limits, 23 words
+ *     lig_name                356   limits, 780 bytes
+ *     lig_sheet        24,994,876   sheet of 64: ambiguous, 24 words
  *
  * "limits" is a card at its limits; "worst found" is the card and line, of 62,469 items, on which a
  * search found lig_read slowest. lig_sheet takes about as long as lig_read takes for all of its

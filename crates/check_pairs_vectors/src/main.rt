@@ -208,6 +208,22 @@ fn refusals() {
     refused(b"no plan", &card, b"takes", b"");
 }
 
+// The second word spelled as the first, and made by the same nonterminal: the word step for "coir" may name either production.
+fn alike() {
+    let mut card = vectors::TOMATO;
+    card[25] = b'c';
+    card[27] = b'i';
+    card[28] = b'r';
+    card[79] = 2;
+    every(
+        b"two words spelled alike",
+        &card,
+        b"coir takes mild",
+        &vectors::PLAN_ONE,
+        2,
+    );
+}
+
 fn main() {
     let card = vectors::TOMATO;
     let one = vectors::PLAN_ONE;
@@ -232,5 +248,6 @@ fn main() {
     let words = vectors::KINDS_LINE;
     let plan = vectors::KINDS_PLAN;
     every(b"every kind", &kinds, &words, &plan, 18);
+    alike();
     refusals();
 }

@@ -130,6 +130,9 @@ pub input-other : (card line : List ℕ) → inputNumber card line ≡ 25 → �
 input-other card line e = first-other 24 (inputRefusals card line) refl e
 
 -- 15 no longer occurs: no list of refusals has it, with Check's and Name's own after them.
+pub card-never-15 : (card : List ℕ) → cardNumber card ≡ 15 → ⊥
+card-never-15 card e = first-other 14 (cardRefusals card) refl e
+
 pub input-never-15 : (card line : List ℕ) → inputNumber card line ≡ 15 → ⊥
 input-never-15 card line e = first-other 14 (inputRefusals card line) refl e
 
