@@ -8,6 +8,7 @@ use mathlib.Core.Path.{_≡_, refl, sym, ap, ap₂, _∙_}
 use mathlib.Core.Bool.{true, false, not, _||_}
 use mathlib.Core.Logic.{_⊎_, inl, inr, ⊎-elim}
 use lib.Dec.{eqb}
+use lib.ListN.{getD, replicate}
 use lib.Pow.{pow-pos, shl-exact}
 use lib.Bits.{bitAnd, bitOr, and-step, or-step, and-zero-r}
 use borrow.Author.Tests.{eq-eqb, ne-eqb, le-leb, lt-leb}
@@ -20,6 +21,12 @@ bitOf-below (suc b) x = bitOf-below b (x / 2)
 pub bitOf-zero : (b : ℕ) → bitOf b 0 ≡ 0
 bitOf-zero zero = refl
 bitOf-zero (suc b) = bitOf-zero b
+
+-- A table of sets, or of any numbers, that is all 0 is 0 everywhere.
+pub zero-at : (n s : ℕ) → _≡_ {A = ℕ} (getD (replicate n 0) s 0) 0
+zero-at zero s = refl
+zero-at (suc n) zero = refl
+zero-at (suc n) (suc s) = zero-at n s
 
 -- Of the bits of two numbers, the greater and the smaller.
 or-half : (x y : ℕ) → bitOr x y / 2 ≡ bitOr (x / 2) (y / 2)

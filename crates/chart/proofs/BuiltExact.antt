@@ -28,7 +28,7 @@ use Rattle.chart_model.proofs.Exact.{build-chart, build-room, build-none}
 use Rattle.chart.specs.declared.Built.the-variants.{Chart, TooMany}
 use Rattle.chart.specs.Fill.{Between, Closed}
 use Rattle.chart.specs.Built.{Buildable, RoomLent, TablesLent, BuiltRoom}
-use Rattle.chart.proofs.SetLaws.{zero-at}
+use Rattle.bits.proofs.BitLaws.{zero-at}
 use Rattle.chart.proofs.RowLaws.{rows-none}
 use Rattle.chart.proofs.FillLaws.{start-between}
 use Rattle.chart.proofs.CardFits.{lefts-below}

@@ -183,12 +183,6 @@ last-rule card p q e =
       | no d ↦ inl (rule-there card p q (omega arith) ∙ ap some (sym is))
     ]
 
--- What is all 0 is 0 everywhere.
-pub zero-at : (n s : ℕ) → _≡_ {A = ℕ} (getD (replicate n 0) s 0) 0
-zero-at zero s = refl
-zero-at (suc n) zero = refl
-zero-at (suc n) (suc s) = zero-at n s
-
 -- A set for one rule more.
 setOf-none : (test : Rule → Type 0) (set : ℕ) → SetOf [] test set
 setOf-none test set p r e = absurd (none-some e)

@@ -1,12 +1,12 @@
 -- Some list of words that can stand at the places of a line has a derivation exactly when the item of the start over all places is
 -- derived: rewriting to such a list gives a yield, a yield a bare item, and back, where the list is what the yield reads.
 use Prim.Native.Nat.{ℕ}
-use mathlib.Core.List.{List, [], _∷_, map}
-use Rattle.grammar.specs.Rewriting.{Rule, word, start, Steps, Derivation}
+use mathlib.Core.List.{List, []}
+use Rattle.grammar.specs.Rewriting.{Rule, Derivation}
 use Rattle.grammar.specs.Input.{WordsAt}
 use Rattle.grammar.specs.Items.{bare, Derived}
 use Rattle.grammar.specs.Plan.{PlanStep, LeftmostDerivation}
-use Rattle.grammar.proofs.Deduction.{Comes, sound, complete, Fills, empty}
+use Rattle.grammar.proofs.Deduction.{sound, complete, empty}
 use Rattle.grammar.proofs.RewritingYields.{words-yield, steps-yield}
 use Rattle.grammar.proofs.Leftmost.{plan-rewrites, leftmost-is-steps}
 

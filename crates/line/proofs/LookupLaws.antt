@@ -1,7 +1,7 @@
 -- Looking a word up entry by entry: one entry is compared with the word byte by byte, if it is as long, so a mismatch passes the entry
 -- over, and a comparison that comes to the end has found it. An equal entry is in the word's slot, so none stands outside the range
 -- of that slot; those that were found are the equal entries below the place from which the search goes on.
-use Prim.Native.Nat.{ℕ, zero, suc, _+_, _≤_, _<_}
+use Prim.Native.Nat.{ℕ, _+_, _≤_, _<_}
 use native.Mathlib.Numerals.{add-one}
 use native.Mathlib.Omega.{arith}
 use native.Mathlib.Decide.{ℕ-discrete}

@@ -1,6 +1,6 @@
 -- The one pass over a line: n words stand before `at`, every byte before it fits, and the words are numbered while there is room. At the
 -- end the verdict on the words is the answer.
-use Prim.Native.Nat.{ℕ, _+_, _≤_, _<_}
+use Prim.Native.Nat.{ℕ, _+_, _≤_}
 use native.Mathlib.Omega.{arith}
 use mathlib.Core.Path.{_≡_, refl, sym, _∙_, ap, ap₂}
 use mathlib.Core.Bool.{Bool, true, false, cond}

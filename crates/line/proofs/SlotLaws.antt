@@ -2,16 +2,17 @@
 -- that slot was met before, and ends after it.
 use Prim.Native.Nat.{ℕ, _+_, _-_, _≤_, _<_}
 use native.Mathlib.Omega.{arith}
-use native.Mathlib.Decide.{decLe, ℕ-discrete}
+use native.Mathlib.Decide.{ℕ-discrete}
 use mathlib.Core.Path.{_≡_, refl, sym, _∙_, ap, ap₂}
 use mathlib.Core.Bool.{cond}
 use mathlib.Core.List.{List}
 use lib.Dec.{eqb}
-use lib.ListN.{length, getD, set, length-set, replicate, getD-replicate, List·getD-eq-default}
+use lib.ListN.{length, getD, set, length-set, replicate}
 use lib.Seq.{getD-set-same, getD-set-other}
 use borrow.Author.Tests.{eq-eqb, ne-eqb}
 use Rattle.layout.specs.Bytes.{byteAt}
 use Rattle.layout.specs.Card.{wordCount, entryAt, spellingLength, spelling, cardNumber}
+use Rattle.bits.proofs.BitLaws.{zero-at}
 use Rattle.line.specs.Slots.{slotOf, entrySlot, Ranged}
 use Rattle.line.proofs.CardLaws.{spelling-some, spelling-byte, spelling-size}
 
@@ -27,19 +28,13 @@ slot-there card v p q ok few first last e =
     (ap (byteAt card) begins ∙ sym (spelling-byte card v 0 some))
     (ap (byteAt card) ends ∙ sym (spelling-byte card v (length (spelling card v) - 1) (omega (arith, some, size))))
 
-zeros : (h : ℕ) → _≡_ {A = ℕ} (getD (replicate 32 0) h 0) 0
-zeros h = elim (decLe 32 h) [
-  | yes l ↦ List·getD-eq-default (replicate 32 0) 0 l
-  | no d ↦ getD-replicate 32 h 0 0 (omega arith)
-]
-
 pub ranged-none : (card : List ℕ) → Ranged card 0 (replicate 32 0) (replicate 32 0)
 ranged-none card =
     record {
       lows = refl;
       highs = refl;
-      order = λ h. omega (arith, zeros h);
-      within = λ h. omega (arith, zeros h);
+      order = λ h. omega (arith, zero-at 32 h);
+      within = λ h. omega (arith, zero-at 32 h);
       after = λ v l. absurd (omega arith);
       before = λ v l. absurd (omega arith);
     }

@@ -7,7 +7,8 @@ use lib.ListN.{length, getD}
 use Rattle.layout.specs.Card.{productionCount}
 use Rattle.chart.specs.Fill.{setCount, Classified}
 use Rattle.chart.proofs.CardFits.{firstRules, few-rules, production-there, given-fits-most}
-use Rattle.chart.proofs.SetLaws.{zero-at, classified-none, classified-more}
+use Rattle.bits.proofs.BitLaws.{zero-at}
+use Rattle.chart.proofs.SetLaws.{classified-none, classified-more}
 use Rattle.chart.proofs.sets.classify.Statement.{statement}
 use Rattle.chart.proofs.sets.classify.Tie as tie
 

@@ -1,6 +1,6 @@
 -- No entry from `from` up to `next` is the word; while its bytes are compared, the entry at `here` agrees with the word up to `i`.
 -- Another length or a mismatch passes the entry over, and the end of the word has found it.
-use Prim.Native.Nat.{ℕ, _-_}
+use Prim.Native.Nat.{_-_}
 use native.Mathlib.Omega.{arith}
 use mathlib.Core.Path.{_≡_, _∙_, ap, subst}
 use borrow.Author.Needs.{needs}
