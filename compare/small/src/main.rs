@@ -68,29 +68,40 @@ fn all_comparisons(who: Who) -> Outcome {
     all_sheets(who)
 }
 
-fn all_lines(who: Who, kind: &str, cards: &[CardText]) -> Outcome {
-    let mut tally = Tally::default();
-    let mut comparison = Comparison {
+/// Compares with a tally, from the start of the same random numbers each time.
+fn compare(who: Who, tally: &mut Tally, what: impl FnOnce(&mut Comparison) -> Outcome) -> Outcome {
+    what(&mut Comparison {
         who,
         random: &mut Random::new(0),
         scratch: &mut Scratch::default(),
-        tally: &mut tally,
+        tally,
         effort: &EFFORT,
-    };
-    for text in cards {
-        let card = text.bytes();
-        let spellings = spellings(text);
-        for words in 0..=MOST_WORDS {
-            for numbers in lists(spellings.len(), words) {
-                comparison.run(&card, &line(&spellings, &numbers))?;
-                comparison.tally.cases += 1;
-            }
-        }
-    }
+    })
+}
+
+fn all_lines(who: Who, kind: &str, cards: &[CardText]) -> Outcome {
+    let mut tally = Tally::default();
+    compare(who, &mut tally, |comparison| {
+        cards
+            .iter()
+            .try_for_each(|text| lines_under(text, comparison))
+    })?;
     println!(
         "{} cards with {kind}, all lines of up to {MOST_WORDS} words: {tally}",
         cards.len()
     );
+    Ok(())
+}
+
+fn lines_under(text: &CardText, comparison: &mut Comparison) -> Outcome {
+    let card = text.bytes();
+    let spellings = spellings(text);
+    for words in 0..=MOST_WORDS {
+        for numbers in lists(spellings.len(), words) {
+            comparison.run(&card, &line(&spellings, &numbers))?;
+            comparison.tally.cases += 1;
+        }
+    }
     Ok(())
 }
 
@@ -139,14 +150,9 @@ fn all_sheets(who: Who) -> Outcome {
     let mut tally = Tally::default();
     let cards = worlds::cards_for_sheets();
     for text in &cards {
-        let mut comparison = Comparison {
-            who,
-            random: &mut Random::new(0),
-            scratch: &mut Scratch::default(),
-            tally: &mut tally,
-            effort: &EFFORT,
-        };
-        sheets::try_all(&text.bytes(), &mut comparison)?;
+        compare(who, &mut tally, |comparison| {
+            sheets::try_all(&text.bytes(), comparison)
+        })?;
     }
     println!(
         "{} cards, all sheets of up to {} bytes: {tally}",
