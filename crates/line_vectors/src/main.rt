@@ -41,7 +41,7 @@ fn print(r: Accepted) {
 }
 
 // The lines of a text, each ended by hex 0A, over a card.
-pub fn show_over(card: &[u8], text: &[u8]) {
+fn show_over(card: &[u8], text: &[u8]) {
     let mut at = 0;
     while at < text.len() {
         let end = line_end(text, at);
