@@ -359,11 +359,11 @@ uint64_t lig_sheet(const uint8_t *card, size_t card_length,
  * EPYC) with nothing else running, and the workload that took it:
  *
  *     lig_card_check          355   limits, 780 bytes
- *     lig_read         23,053,382   worst found, 24 words
- *     lig_check             2,381   limits, 23 words
- *     lig_pairs             2,439   limits, 23 words
+ *     lig_read         23,071,809   worst found, 24 words
+ *     lig_check             2,373   limits, 23 words
+ *     lig_pairs             2,442   limits, 23 words
  *     lig_name                356   limits, 780 bytes
- *     lig_sheet        24,994,876   sheet of 64: ambiguous, 24 words
+ *     lig_sheet        24,646,718   sheet of 64: ambiguous, 24 words
  *
  * "limits" is a card at its limits; "worst found" is the card and line, of 62,469 items, on which a
  * search found lig_read slowest. lig_sheet takes about as long as lig_read takes for all of its

@@ -1,15 +1,15 @@
 -- Where a word has to be looked for: a word's slot is five bits of its first and last letters, and for each of the 32 slots two tables say
 -- from which entry on and up to which entry those in it stand.
-use Prim.Native.Nat.{ℕ, _-_, _≤_, _<_}
+use Prim.Native.Nat.{ℕ, _+_, _*_, _-_, _≤_, _<_}
 use mathlib.Core.Path.{_≡_}
 use mathlib.Core.List.{List}
-use lib.Bits.{bitAnd, bitXor}
+use lib.Bits.{bitAnd}
 use lib.ListN.{length, getD}
 use Rattle.layout.specs.Bytes.{byteAt}
 use Rattle.layout.specs.Card.{spelling}
 
 abbrev pub slotOf : ℕ → ℕ → ℕ
-slotOf first last = bitAnd (bitXor first last) 31
+slotOf first last = bitAnd (2 * first + last) 31
 
 abbrev pub wordSlot : List ℕ → ℕ
 wordSlot word = slotOf (byteAt word 0) (byteAt word (length word - 1))

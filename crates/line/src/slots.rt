@@ -13,11 +13,11 @@ ghost use Rattle.line.specs.Slots.{slotOf, Ranged};
 // Five bits tell most words apart, numbered ones such as row1 and row2 too.
 pub const SLOTS: usize = 32;
 
-// The slot of a word, by its first and its last letter.
+// The slot of a word, by its first and its last letter. The first counts twice, so that words of one letter or digit are told apart.
 pub fn slot(first: u8, last: u8) -> usize
     ensures { λ r. ⌜ (r ≡ slotOf first last) × (r < 32) ⌝ }
 {
-    wide((first ^ last) & 31)
+    (2 * wide(first) + wide(last)) & 31
 }
 
 // Where the entries of a slot begin, as far as is known: with this one, where none has been met.
