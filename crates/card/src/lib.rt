@@ -33,6 +33,9 @@ impl Card {
 
     pub const MAX_INDICES: usize = 8;
 
+    // The power of 2 that this is.
+    pub const INDICES_POWER: usize = 3;
+
     pub const MAX_PRODUCTIONS: usize = 64;
 
     // Bytes in the shortest header, in a word entry and in a production.

@@ -160,7 +160,7 @@ pub fn production_of(kind: u8, left: u8, b: u8, c: u8, g: u8) -> Production
     } else if kind <= 4 {
         action = Action::Keep;
     }
-    if kind % 2 == 1 {
+    if kind & 1 == 1 {
         return side_first(left, action, b, c);
     }
     side_last(left, action, b, c)

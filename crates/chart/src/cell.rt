@@ -51,7 +51,7 @@ fn at_word(
             dependent: NOWHERE,
             continuation: NOWHERE,
         };
-        let number = z.symbols * (z.words * (z.words + 1) / 2) * Card::MAX_INDICES;
+        let number = z.symbols * ((z.words * (z.words + 1)) >> 1) * Card::MAX_INDICES;
         return records::add::add(chart, marks, z, c, f, number, origin, count);
     }
     count

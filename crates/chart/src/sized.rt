@@ -27,7 +27,7 @@ const SPANS_12: usize = 78;
 
 const SPANS_16: usize = 136;
 
-const SPANS_MOST: usize = MOST_WORDS * (MOST_WORDS + 1) / 2;
+const SPANS_MOST: usize = (MOST_WORDS * (MOST_WORDS + 1)) >> 1;
 
 // With tables that are all 0 and long enough.
 fn build_with(

@@ -140,7 +140,7 @@ pub fn gives(card: &[u8], table: usize, plan: &[u8]) -> usize
     ensures { λ r. ⌜ (r ≡ length (planPairs (now (card .entry)) (stepsOf (now (plan .entry))))) × (r ≤ length (now (plan .entry))) ⌝ }
 {
     let mut count = 0;
-    let mut left = plan.len() / 4;
+    let mut left = plan.len() >> 2;
     while 0 < left {
         left -= 1;
         let step = step_at(plan, 4 * left);
@@ -161,7 +161,7 @@ pub fn write_pairs(card: &[u8], table: usize, plan: &[u8], count: usize, room: &
         waiting: 0,
         unwritten: count,
     };
-    let mut left = plan.len() / 4;
+    let mut left = plan.len() >> 2;
     while 0 < left {
         left -= 1;
         let step = step_at(plan, 4 * left);

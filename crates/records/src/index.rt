@@ -19,7 +19,7 @@ pub fn span_at(n: usize, i: usize, j: usize) -> usize
     requires { ⌜ (n ≤ mostWords) × (i < j) × (j ≤ n) ⌝ }
     ensures { λ r. ⌜ (r ≡ spanAt i j) × (r < spans n) ⌝ }
 {
-    j * (j - 1) / 2 + i
+    ((j * (j - 1)) >> 1) + i
 }
 
 pub fn cell_at(n: usize, symbols: usize, a: usize, i: usize, j: usize) -> usize

@@ -7,7 +7,7 @@ ghost use Rattle.records.specs.Room.{markAt, MarkAdded};
 fn bit_of(number: usize) -> u8
     ensures { λ r. ⌜ r ≡ 2 ^ (number % 8) ⌝ }
 {
-    1u8 << (number % 8)
+    1u8 << (number & 7)
 }
 
 pub fn seen(marks: &[u8], number: usize) -> bool
@@ -15,7 +15,7 @@ pub fn seen(marks: &[u8], number: usize) -> bool
     ensures { λ r. ⌜ r ≡ markAt (now (marks .entry)) number ⌝ }
 {
     let bit = bit_of(number);
-    marks[number / 8] & bit != 0
+    marks[number >> 3] & bit != 0
 }
 
 pub fn mark(marks: &mut [u8], number: usize)
@@ -23,7 +23,7 @@ pub fn mark(marks: &mut [u8], number: usize)
     ensures { λ r. ⌜ MarkAdded number (now (marks .entry)) (now (marks .exit)) ⌝ }
 {
     let bit = bit_of(number);
-    let at = number / 8;
+    let at = number >> 3;
     marks[at] = marks[at] | bit;
 }
 
@@ -32,5 +32,5 @@ pub fn unmark(marks: &mut [u8], number: usize)
     requires { ⌜ number / 8 < length (now marks) ⌝ }
     ensures { λ r. ⌜ now (marks .exit) ≡ set (now (marks .entry)) (number / 8) 0 ⌝ }
 {
-    marks[number / 8] = 0;
+    marks[number >> 3] = 0;
 }

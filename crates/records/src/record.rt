@@ -31,8 +31,10 @@ pub struct Origin {
 
 pub const NOWHERE: u16 = 65535;
 
-// The bytes of a record.
+// The bytes of a record, and the power of 2 that they are.
 pub const RECORD: usize = 16;
+
+pub const RECORD_POWER: usize = 4;
 
 // The foot of the record at position m.
 pub fn foot_at(chart: &[u8], m: usize) -> Foot
@@ -59,13 +61,13 @@ pub fn number_at(chart: &[u8], m: usize) -> usize
 fn low(x: u16) -> u8
     ensures { λ r. ⌜ r ≡ lowByte x ⌝ }
 {
-    (x % 256) as u8
+    (x & 255) as u8
 }
 
 fn high(x: u16) -> u8
     ensures { λ r. ⌜ r ≡ highByte x ⌝ }
 {
-    (x / 256) as u8
+    (x >> 8) as u8
 }
 
 // All the bytes of src into the room at a place.

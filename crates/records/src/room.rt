@@ -1,16 +1,17 @@
 // The lent room: how many records it holds, clearing it, and clearing the numbers of feet once the chart is built.
 use crate::record::RECORD;
+use crate::record::RECORD_POWER;
 ghost use mathlib.Core.Path.{_≡_};
 ghost use Prim.Native.Nat.{_*_, _≤_};
 ghost use lib.ListN.{length, replicate};
 ghost use Rattle.layout.specs.Records.{capacity as itemsIn};
 ghost use Rattle.records.specs.Room.{numbersCleared};
 
-// The items that a room of so many bytes holds.
+// The items that a room of so many bytes holds, with neither a division nor a remainder (document 02, Paper 3).
 pub fn capacity(bytes: usize) -> usize
     ensures { λ r. ⌜ r ≡ itemsIn bytes ⌝ }
 {
-    let whole = bytes / RECORD;
+    let whole = bytes >> RECORD_POWER;
     if 65535 < whole {
         return 65535;
     }

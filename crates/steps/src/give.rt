@@ -108,7 +108,7 @@ fn give_one(
     if given != g {
         return count;
     }
-    let cell = records::record::number_at(chart, y) / Card::MAX_INDICES;
+    let cell = records::record::number_at(chart, y) >> Card::INDICES_POWER;
     let own = crate::hand::own_at(z, c);
     if records::cover::is_covered(covers, own, cell) {
         return count;
