@@ -33,6 +33,12 @@
  * keeps no pointer after it has returned. So calls may run at the same time, each with rooms of its
  * own, and equal inputs with rooms of equal length always get the same answer.
  *
+ * Nothing here divides, since coding rules allow no division between two valve strokes: no function
+ * of the archive has a division or a remainder in its source, no instruction of it divides, be it
+ * integers, floats or vectors, it calls nothing that divides, and the code of this header does not
+ * either. The memcpy and memset that you link are your own. This is not proved; the gate looks at
+ * the source and at the archive as it is built (tools/check-division).
+ *
  * What is said below of answers and rooms is proved, for every input; docs/MAP.md says where.
  */
 #ifndef LIG_H
@@ -56,8 +62,8 @@ extern "C" {
  */
 #define LIG_VERSION_MAJOR 2
 #define LIG_VERSION_MINOR 0
-#define LIG_VERSION_PATCH 0
-#define LIG_VERSION "2.0.0"
+#define LIG_VERSION_PATCH 1
+#define LIG_VERSION "2.0.1"
 
 /*
  * Refusals
@@ -93,14 +99,20 @@ extern "C" {
 #define LIG_WRONG_PLAN 34  /* the plan is no leftmost derivation of the line */
 #define LIG_WORD_NUMBER 35 /* the card has no word of that number */
 
-/* Who can mend a refusal: the tens of its number, but for 41. */
+/* Who can mend a refusal: the tens of its number, but for 41; 0 for a number that is none. */
 #define LIG_BY_NURSERY 1
 #define LIG_BY_SHIFT_LEADER 2
 #define LIG_BY_PROGRAMMER 3
 
 static inline unsigned lig_mender(unsigned number)
 {
-    return number == LIG_SHEET_LONG ? LIG_BY_SHIFT_LEADER : number / 10;
+    if (number == LIG_SHEET_LONG)
+        return LIG_BY_SHIFT_LEADER;
+    if (number < 10 || number >= 40)
+        return 0;
+    if (number < 20)
+        return LIG_BY_NURSERY;
+    return number < 30 ? LIG_BY_SHIFT_LEADER : LIG_BY_PROGRAMMER;
 }
 
 /*
