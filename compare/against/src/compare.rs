@@ -200,8 +200,19 @@ impl Comparison<'_> {
             };
             lengths.push((chart, plan));
         }
+        self.reads_in(input, items, &lengths)
+    }
+
+    /// Read with these lengths of chart and plan room; the plans that came of it.
+    pub fn reads_in(
+        &mut self,
+        input: &Input,
+        items: &Items,
+        lengths: &[(usize, usize)],
+    ) -> Result<Vec<Vec<u8>>, Box<Disagreement>> {
+        let words = input.accepted().map_or(1, |(_, line)| line.len());
         let mut plans: Vec<Vec<u8>> = Vec::new();
-        for (chart, plan) in lengths {
+        for &(chart, plan) in lengths {
             let number = items.read_number(words, chart, plan);
             self.tally.number(number);
             let mut chart = Room::new(chart, self.random);

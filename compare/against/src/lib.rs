@@ -11,6 +11,7 @@ pub mod edges;
 pub mod expected;
 pub mod lines;
 pub mod room;
+pub mod rooms;
 pub mod sheet;
 mod spellings;
 pub mod tally;

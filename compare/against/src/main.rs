@@ -11,6 +11,7 @@ use against::damage;
 use against::edges;
 use against::expected::Scratch;
 use against::lines;
+use against::rooms;
 use against::sheet;
 use against::tally::Tally;
 use independent::random::Random;
@@ -104,6 +105,11 @@ fn edge_cases(who: Who, tally: &mut Tally, scratch: &mut Scratch) -> Outcome {
         comparison.run(&card, &line)?;
         comparison.tally.cases += 1;
     }
+    for rooms in rooms::all() {
+        comparison.rooms(&rooms)?;
+        comparison.tally.cases += 1;
+    }
+    comparison.room_over_32_bits()?;
     for edge in edges::shared_spellings() {
         comparison.known(&edge)?;
         comparison.tally.cases += 1;
