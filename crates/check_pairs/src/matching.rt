@@ -134,7 +134,7 @@ fn match_step(
     }
 }
 
-// How many pairs the plan has: its give steps, counted from the last.
+// How many pairs the plan has: its give steps, counted from the last. A step has four bytes.
 pub fn gives(card: &[u8], table: usize, plan: &[u8]) -> usize
     requires { ⌜ Checked (now card) (now plan) × (table ≡ productionTable (now card)) ⌝ }
     ensures { λ r. ⌜ (r ≡ length (planPairs (now (card .entry)) (stepsOf (now (plan .entry))))) × (r ≤ length (now (plan .entry))) ⌝ }
