@@ -177,18 +177,3 @@ fn nearly_spelled() -> Vec<Edge> {
     edges.push(edge(&long, "mildforever", 0, 1));
     edges
 }
-
-#[cfg(test)]
-mod tests {
-    use super::greatest_charts;
-    use crate::expected::{Input, Items, Scratch};
-
-    #[test]
-    fn the_greatest_charts_are_one_apart() {
-        let counts = greatest_charts().map(|(card, line)| {
-            let items = Items::of(&Input::new(&card, &line), &mut Scratch::default());
-            items.held.map(|held| held.keys.len())
-        });
-        assert_eq!(counts, [Some(65_535), None]);
-    }
-}
