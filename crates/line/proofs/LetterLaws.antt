@@ -1,4 +1,4 @@
--- Letters: bytes above the space, so each fits a line; and runs of them, taken byte by byte.
+-- Letters: bytes above the space, so each fits a line; and where a run of them ends.
 use Prim.Native.Nat.{ℕ, suc, _+_, _-_, _≤_, _<_}
 use native.Mathlib.Omega.{arith}
 use mathlib.Core.Path.{_≡_, refl, sym, _∙_}
@@ -10,7 +10,8 @@ use lib.Seq.{take-suc, take-add, drop-drop, getD-drop}
 use borrow.Author.Tests.{leb-true, le-leb, ne-eqb}
 use Rattle.layout.specs.Bytes.{byteAt, isLetter, allBytes}
 use Rattle.layout.specs.Line.{space, isLineByte}
-use Rattle.line.specs.Words.{part, Letters, PastLetters}
+use Rattle.octets.specs.Letters.{Letters}
+use Rattle.line.specs.Words.{PastLetters}
 use Rattle.layout.proofs.TestLaws.{both}
 
 -- The limits of letters and digits together.
@@ -36,63 +37,6 @@ letter-fits b e = rw e
 
 pub neither-fits : (b : ℕ) → isLetter b ≡ false → (b ≡ space → ⊥) → isLineByte b ≡ false
 neither-fits b e n = rw (e, ne-eqb b space n)
-
--- Lists of letters.
-all-append : (test : ℕ → Bool) (a b : List ℕ) → allBytes test a ≡ true → allBytes test b ≡ true → allBytes test (a ++ b) ≡ true
-all-append test [] b e f = f
-all-append test (x ∷ a) b e f =
-    let parts = both (test x) (allBytes test a) e in
-    rw (parts .0) (all-append test a b (parts .1) f)
-
--- Parts of a line.
-pub part-length : (line : List ℕ) (start i : ℕ) → i ≤ length line → length (part line start i) ≡ i - start
-part-length line start i h = simp (length-take, length-drop) (omega arith)
-
-pub part-none : (line : List ℕ) (start : ℕ) → part line start start ≡ []
-part-none line start = let e : start - start ≡ 0 = omega arith in rw e
-
-pub part-more : (line : List ℕ) (start i : ℕ) → start ≤ i → i < length line
-    → part line start (i + 1) ≡ part line start i ++ (byteAt line i ∷ [])
-part-more line start i a h =
-    let e : i + 1 - start ≡ suc (i - start) = omega arith in
-    let f : start + (i - start) ≡ i = omega arith in
-    rw e
-    (take-suc (drop start line) (i - start) 0 (omega (arith, length-drop start line))
-    ∙ rw (getD-drop start line (i - start) 0, f))
-
-pub part-rest : (line : List ℕ) (start stop : ℕ) → start ≤ stop → drop start line ≡ part line start stop ++ drop stop line
-part-rest line start stop a =
-    let f : start + (stop - start) ≡ stop = omega arith in
-    sym (take-append-drop (stop - start) (drop start line)) ∙ rw (drop-drop, f)
-
--- Runs of letters.
-pub letters-none : {line : List ℕ} {at : ℕ} → at ≤ length line → Letters line at at
-letters-none {line} {at} h = record { after = omega arith; within = h; letters = rw (part-none line at) }
-
-pub letters-more : {line : List ℕ} {at i : ℕ} → Letters line at i → i < length line → isLetter (byteAt line i) ≡ true
-    → Letters line at (i + 1)
-letters-more {line} {at} {i} s h e =
-    record {
-      after = omega (arith, s .after);
-      within = omega arith;
-      letters =
-          rw (part-more line at i (s .after) h)
-          (all-append isLetter (part line at i) (byteAt line i ∷ []) (s .letters) (rw e));
-    }
-
-pub letters-join : {line : List ℕ} {at i stop : ℕ} → Letters line at i → Letters line i stop → Letters line at stop
-letters-join {line} {at} {i} {stop} s t =
-    let sum : stop - at ≡ i - at + (stop - i) = omega (arith, s .after, t .after) in
-    let place : at + (i - at) ≡ i = omega (arith, s .after) in
-    record {
-      after = omega (arith, s .after, t .after);
-      within = t .within;
-      letters =
-          rw (sum, take-add, drop-drop, place) (all-append isLetter (part line at i) (part line i stop) (s .letters) (t .letters));
-    }
-
-pub small-letter : (b : ℕ) → 0x61 ≤ b → b ≤ 0x7A → isLetter b ≡ true
-small-letter b low high = rw (le-leb 0x61 b low, le-leb b 0x7A high)
 
 pub past-here : {line : List ℕ} {at i : ℕ} → Letters line at i → isLetter (byteAt line i) ≡ false → PastLetters line at i
 past-here s e = record { taken = s; stops = λ h. e }

@@ -17,7 +17,8 @@ use Rattle.layout.specs.Line.{wordsOf, equalsEntry, isKnown, allKnown}
 use Rattle.layout.specs.Answers.{wordsIn}
 use Rattle.bits.specs.Bits.{withNumber, setBelow}
 use Rattle.bits.proofs.BitSets.{with-some}
-use Rattle.line.specs.Words.{part, WordStarts}
+use Rattle.octets.specs.Letters.{part}
+use Rattle.line.specs.Words.{WordStarts}
 use Rattle.line.specs.Lookup.{wordSet}
 use Rattle.line.proofs.WordLaws.{WordEnds, no-words}
 

@@ -13,9 +13,11 @@ use borrow.Author.Tests.{eq-eqb, ne-eqb}
 use Rattle.layout.specs.Bytes.{byteAt, isLetter, allBytes}
 use Rattle.layout.specs.Line.{space, isLineByte, ended, wordsFrom, wordsOf}
 use Rattle.layout.specs.Answers.{wordsIn}
-use Rattle.line.specs.Words.{part, WordStarts, Letters, PastLetters}
+use Rattle.octets.specs.Letters.{part, Letters}
+use Rattle.octets.proofs.LetterLaws.{part-length, part-rest}
+use Rattle.line.specs.Words.{WordStarts, PastLetters}
 use Rattle.layout.proofs.TestLaws.{both}
-use Rattle.line.proofs.LetterLaws.{letter-no-space, letter-fits, neither-fits, part-length, part-rest}
+use Rattle.line.proofs.LetterLaws.{letter-no-space, letter-fits, neither-fits}
 
 -- One byte of a line, with the word that has been begun.
 at-space : (so : List ℕ) (b : ℕ) (rest : List ℕ) → b ≡ space → wordsFrom so (b ∷ rest) ≡ ended so (wordsOf rest)

@@ -6,6 +6,7 @@ use mathlib.Core.List.{List}
 use lib.ListN.{length, take, drop}
 use Rattle.layout.specs.Bytes.{byteAt, isLetter, allBytes}
 use Rattle.layout.specs.Line.{space, isLineByte, wordsOf}
+use Rattle.octets.specs.Letters.{Letters}
 
 -- From `start` on the line has the words that it has from `at` on, and its bytes fit exactly if they do from `at` on; and no space
 -- stands at `start`.
@@ -15,16 +16,6 @@ pub record WordStarts (line : List ℕ) (at start : ℕ) : Type 0 where
   pub words : wordsOf (drop at line) ≡ wordsOf (drop start line)
   pub fits : allBytes isLineByte (drop at line) ≡ allBytes isLineByte (drop start line)
   pub letter : start < length line → byteAt line start ≡ space → ⊥
-
--- The bytes of a line from one place up to another.
-abbrev pub part : List ℕ → ℕ → ℕ → List ℕ
-part line start stop = take (stop - start) (drop start line)
-
--- Letters stand from `at` up to `stop`.
-pub record Letters (line : List ℕ) (at stop : ℕ) : Type 0 where
-  pub after : at ≤ stop
-  pub within : stop ≤ length line
-  pub letters : allBytes isLetter (part line at stop) ≡ true
 
 -- No letter stands there: the line ends, or has another byte.
 abbrev pub NoLetter : List ℕ → ℕ → Type 0

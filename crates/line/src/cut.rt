@@ -1,8 +1,9 @@
 // Cutting a line into words: where the next one starts, and where it ends.
 use octets::is_letter;
+use octets::past_small;
 ghost use Prim.Native.Nat.{_≤_};
 ghost use lib.ListN.{length};
-ghost use Rattle.line.specs.Words.{WordStarts, Letters, PastLetters};
+ghost use Rattle.line.specs.Words.{WordStarts, PastLetters};
 
 pub const SPACE: u8 = 0x20;
 
@@ -19,25 +20,6 @@ pub fn word_start(line: &[u8], at: usize) -> usize
         i += 1;
     }
     i
-}
-
-// Past the letters a to z that stand at `at`. Most words are one such run, and its loop has one test for a byte.
-fn past_small(line: &[u8], at: usize) -> usize
-    requires { ⌜ at ≤ length (now line) ⌝ }
-    ensures { λ r. ⌜ Letters (now (line .entry)) at r ⌝ }
-{
-    let mut end = at;
-    while end < line.len() {
-        let b = line[end];
-        if b < b'a' {
-            return end;
-        }
-        if b'z' < b {
-            return end;
-        }
-        end += 1;
-    }
-    end
 }
 
 // Past the letters that stand at `at`: runs of a to z, with digits between them.

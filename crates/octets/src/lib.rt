@@ -4,6 +4,7 @@ ghost use Prim.Native.Nat.{_<_, _≤_, _+_};
 ghost use lib.Dec.{eqb};
 ghost use lib.ListN.{length};
 ghost use Rattle.layout.specs.Bytes.{byteAt, number16At, isLetter, sameBytes, allBytes};
+ghost use Rattle.octets.specs.Letters.{Letters};
 
 // The byte at a place, 0 past the end.
 pub fn byte(s: &[u8], k: usize) -> u8
@@ -53,15 +54,34 @@ pub fn is_letter(b: u8) -> bool
     b <= b'z'
 }
 
+// Past the letters a to z that stand at `at`. Most words are one such run, and its loop has one test for a byte.
+pub fn past_small(s: &[u8], at: usize) -> usize
+    requires { ⌜ at ≤ length (now s) ⌝ }
+    ensures { λ r. ⌜ Letters (now (s .entry)) at r ⌝ }
+{
+    let mut end = at;
+    while end < s.len() {
+        let b = s[end];
+        if b < b'a' {
+            return end;
+        }
+        if b'z' < b {
+            return end;
+        }
+        end += 1;
+    }
+    end
+}
+
 pub fn all_letters(s: &[u8]) -> bool
     ensures { λ r. ⌜ r ≡ allBytes isLetter (now (s .entry)) ⌝ }
 {
-    let mut i = 0;
+    let mut i = past_small(s, 0);
     while i < s.len() {
         if !is_letter(s[i]) {
             return false;
         }
-        i += 1;
+        i = past_small(s, i + 1);
     }
     true
 }

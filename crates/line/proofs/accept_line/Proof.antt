@@ -10,9 +10,9 @@ use borrow.Author.Needs.{needs}
 use lib.ListN.{length}
 use Rattle.layout.specs.Card.{cardNumber, wordCount}
 use Rattle.card.specs.View.{ViewOf}
-use Rattle.line.specs.Words.{part}
+use Rattle.octets.specs.Letters.{part}
 use Rattle.line.specs.Slots.{Ranged}
-use Rattle.line.proofs.LetterLaws.{part-length}
+use Rattle.octets.proofs.LetterLaws.{part-length}
 use Rattle.line.proofs.WordLaws.{WordEnds, ends-at-space, ends-with-line, byte-refused, less-left}
 use Rattle.line.proofs.NumberLaws.{Numbering, numbering-known, numbering-unknown}
 use Rattle.line.proofs.RefusalLaws.{refuses-byte}

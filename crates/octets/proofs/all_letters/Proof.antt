@@ -1,49 +1,58 @@
--- `all_letters`: every byte passed by the loop is a letter.
--- So at the end all are, and a return on the way shows one that is not.
-use Prim.Native.Nat.{ℕ, _≤_, _<_, _-_}
-use mathlib.Core.Bool.{true}
-use mathlib.Core.Path.{_≡_}
-use borrow.Author.Count.{below-none, below-more}
+-- `all_letters`: letters stand from the first byte up to the loop's place, run after run.
+-- So at the end all are letters, and a return on the way shows a byte that is not.
+use Prim.Native.Nat.{_-_}
+use native.Mathlib.Omega.{arith}
 use borrow.Author.Needs.{needs}
-use lib.ListN.{length, getD}
+use lib.ListN.{length}
 use denote.Ref.{now}
 use Rattle.layout.specs.Bytes.{isLetter}
-use Rattle.layout.proofs.TestLaws.{refused, passed, all-bytes, some-byte}
+use Rattle.layout.proofs.TestLaws.{refused, passed, some-byte}
+use Rattle.octets.specs.Letters.{Letters}
+use Rattle.octets.proofs.LetterLaws.{letters-more, letters-join, letters-whole}
 use Rattle.octets.proofs.all_letters.Statement.{statement}
 use Rattle.octets.proofs.all_letters.Tie as tie
 
 abbrev Inv-loop : tie.InvT-loop
-Inv-loop s i₀ i = (i ≤ length s) × ((k : ℕ) → k < i → isLetter (getD s k 0) ≡ true)
+Inv-loop s i₀ i = Letters s 0 i
 
 abbrev μ-loop : tie.MeasureT-loop
 μ-loop s i₀ i = length s - i
 
+past-small-requires : tie.Need-past-small-requires Inv-loop μ-loop
+past-small-requires c κs = search needs
+
 loop-holds : tie.Need-loop-holds Inv-loop μ-loop
-loop-holds c = (search needs, below-none _)
+loop-holds c = c .past-small .ensures
 
 shared-slice-read-is-letter : tie.Need-shared-slice-read-is-letter Inv-loop μ-loop
 shared-slice-read-is-letter c = search needs
 
 is-letter-requires : tie.Need-is-letter-requires Inv-loop μ-loop
-is-letter-requires c κs = search needs
+is-letter-requires c κs = tt
 
 returns : tie.Need-returns Inv-loop μ-loop
 returns c =
-    some-byte isLetter (now (c .before .before .before .before .before .before .args .s)) (c .before .before .before .before .loop .i) (search needs)
-    (refused (c .before .is-letter .ensures) (c .if1 .taken))
+    let at = c .before .before .before .before in
+    some-byte isLetter (now (at .before .before .before .args .s)) (at .loop .i) (omega arith) (refused (c .before .is-letter .ensures) (c .if1 .taken))
 
-add-i : tie.Need-add-i Inv-loop μ-loop
-add-i c = search needs
+add-past-small : tie.Need-add-past-small Inv-loop μ-loop
+add-past-small c = search needs
+
+past-small-requires-2 : tie.Need-past-small-requires-2 Inv-loop μ-loop
+past-small-requires-2 c κs = omega (arith, c .before .before .before .loop-test .taken)
 
 loop-less : tie.Need-loop-less Inv-loop μ-loop
-loop-less c = search needs
+loop-less c = omega (arith, c .past-small2 .ensures .after, c .before .before .before .before .loop-test .taken)
 
 loop-again : tie.Need-loop-again Inv-loop μ-loop
 loop-again c =
-    (search needs, below-more _ _ (c .before .before .before .before .loop .inv .1) (passed (c .before .is-letter .ensures) (c .if1 .left)))
+    letters-join
+    (letters-more (c .before .before .before .before .before .loop .inv) (c .before .before .before .before .loop-test .taken)
+    (passed (c .before .before .is-letter .ensures) (c .before .if1 .left)))
+    (c .past-small2 .ensures)
 
 returns-2 : tie.Need-returns-2 Inv-loop μ-loop
-returns-2 c = all-bytes isLetter (now (c .before .before .before .args .s)) λ k lt. c .before .loop .inv .1 k (search needs)
+returns-2 c = letters-whole (c .before .loop .inv) (c .loop-test .left)
 
 pub all-letters-spec : {M : Type 1} → statement M
 all-letters-spec =
@@ -51,11 +60,13 @@ all-letters-spec =
     (tie.spec
     Inv-loop
     μ-loop
+    past-small-requires
     loop-holds
     shared-slice-read-is-letter
     is-letter-requires
     returns
-    add-i
+    add-past-small
+    past-small-requires-2
     loop-less
     loop-again
     returns-2)

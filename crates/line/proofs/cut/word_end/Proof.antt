@@ -5,8 +5,9 @@ use mathlib.Core.Path.{sym, _∙_}
 use borrow.Author.Needs.{needs}
 use lib.ListN.{length}
 use Rattle.layout.proofs.TestLaws.{unless-true, unless-false}
-use Rattle.line.specs.Words.{Letters}
-use Rattle.line.proofs.LetterLaws.{letters-more, letters-join, past-here, past-line}
+use Rattle.octets.specs.Letters.{Letters}
+use Rattle.octets.proofs.LetterLaws.{letters-more, letters-join}
+use Rattle.line.proofs.LetterLaws.{past-here, past-line}
 use Rattle.line.proofs.cut.word_end.Statement.{statement}
 use Rattle.line.proofs.cut.word_end.Tie as tie
 

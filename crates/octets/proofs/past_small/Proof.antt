@@ -3,16 +3,16 @@ use Prim.Native.Nat.{_-_}
 use borrow.Author.Needs.{needs}
 use lib.ListN.{length}
 use Rattle.layout.specs.Bytes.{byteAt}
-use Rattle.line.specs.Words.{Letters}
-use Rattle.line.proofs.LetterLaws.{letters-none, letters-more, small-letter}
-use Rattle.line.proofs.cut.past_small.Statement.{statement}
-use Rattle.line.proofs.cut.past_small.Tie as tie
+use Rattle.octets.specs.Letters.{Letters}
+use Rattle.octets.proofs.LetterLaws.{letters-none, letters-more, small-letter}
+use Rattle.octets.proofs.past_small.Statement.{statement}
+use Rattle.octets.proofs.past_small.Tie as tie
 
 abbrev Inv-loop : tie.InvT-loop
-Inv-loop line at end₀ end = Letters line at end
+Inv-loop s at end₀ end = Letters s at end
 
 abbrev μ-loop : tie.MeasureT-loop
-μ-loop line at end₀ end = length line - end
+μ-loop s at end₀ end = length s - end
 
 loop-holds : tie.Need-loop-holds Inv-loop μ-loop
 loop-holds c = letters-none (c .pre)
@@ -36,7 +36,7 @@ loop-again : tie.Need-loop-again Inv-loop μ-loop
 loop-again c =
     let at = c .before .before .before .before in
     letters-more (at .loop .inv) (c .before .before .before .loop-test .taken)
-    (small-letter (byteAt (at .before .args .line .now) (at .loop .end)) (c .before .if1 .left) (c .if2 .left))
+    (small-letter (byteAt (at .before .args .s .now) (at .loop .end)) (c .before .if1 .left) (c .if2 .left))
 
 returns-3 : tie.Need-returns-3 Inv-loop μ-loop
 returns-3 c = c .before .loop .inv
