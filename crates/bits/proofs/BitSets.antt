@@ -7,13 +7,14 @@ use native.Mathlib.Decide.{decLe, ℕ-discrete}
 use mathlib.Core.Path.{_≡_, refl, sym, _∙_, ap}
 use mathlib.Core.Bool.{Bool, true, false, cond, _&&_}
 use mathlib.Core.Logic.{_⊎_, inl, inr}
-use lib.Bits.{bitAnd, bitOr}
+use mathlib.Core.List.{List, [], _∷_, List·Memᴰ, List·Memᴰ·head, List·Memᴰ·tail}
+use lib.Bits.{bitAnd, bitOr, and-step, and-zero-l}
 use lib.Count.{trailingZeros}
 use lib.Dec.{ltb}
 use lib.Pow.{pow-pos}
 use borrow.Author.Tests.{eq-eqb, ne-eqb, lt-ltb, le-ltb}
-use Rattle.bits.specs.Bits.{bitOf, holdsBit, withNumber, setBelow, Least, Without}
-use Rattle.bits.proofs.BitLaws.{bitOf-below, bitOf-zero, bitOf-power, bitOf-or, bitOf-and, holdsBit-more}
+use Rattle.bits.specs.Bits.{bitOf, holdsBit, withNumber, withNumbers, setBelow, isPart, Least, Without}
+use Rattle.bits.proofs.BitLaws.{bitOf-below, bitOf-zero, bitOf-power, bitOf-other, bitOf-or, bitOf-and, holdsBit-more}
 
 -- A set with one more number is not empty.
 pub with-some : (set b : ℕ) → withNumber set b ≡ 0 → ⊥
@@ -47,6 +48,54 @@ set-passed (suc n) m test l none =
       | yes e ↦ rw e
       | no d ↦ rw (none n (omega arith) (omega arith)) (set-passed n m test (omega arith) λ k g h. none k g (omega arith))
     ]
+
+-- A set with several numbers more has them and what it had, and nothing else.
+number-from : (set b q : ℕ) → bitOf q (withNumber set b) ≡ 1 → (q ≡ b) ⊎ (bitOf q set ≡ 1)
+number-from set b q o = elim (ℕ-discrete q b) [
+  | yes e ↦ inl e
+  | no d ↦ inr (omega (arith, bitOf-or q set (2 ^ b), bitOf-other q b d))
+]
+
+number-kept : (set b q : ℕ) → bitOf q set ≡ 1 → bitOf q (withNumber set b) ≡ 1
+number-kept set b q o = omega (arith, bitOf-or q set (2 ^ b), bitOf-below q (2 ^ b))
+
+pub numbers-kept : (l : List ℕ) (set q : ℕ) → bitOf q set ≡ 1 → bitOf q (withNumbers set l) ≡ 1
+numbers-kept [] set q o = o
+numbers-kept (b ∷ l) set q o = numbers-kept l (withNumber set b) q (number-kept set b q o)
+
+pub numbers-there : (l : List ℕ) (set q : ℕ) → List·Memᴰ q l → bitOf q (withNumbers set l) ≡ 1
+numbers-there (b ∷ l) set q (List·Memᴰ·head e) =
+    numbers-kept l (withNumber set b) q
+    (omega (arith, bitOf-or q set (2 ^ b), ap (λ (k : ℕ). bitOf q (2 ^ k)) (sym e), bitOf-power q, bitOf-below q set))
+numbers-there (b ∷ l) set q (List·Memᴰ·tail m) = numbers-there l (withNumber set b) q m
+
+pub numbers-from : (l : List ℕ) (set q : ℕ) → bitOf q (withNumbers set l) ≡ 1 → List·Memᴰ q l ⊎ (bitOf q set ≡ 1)
+numbers-from [] set q o = inr o
+numbers-from (b ∷ l) set q o = elim (numbers-from l (withNumber set b) q o) [
+  | inl m ↦ inl (List·Memᴰ·tail m)
+  | inr p ↦ elim (number-from set b q p) [ inl e ↦ inl (List·Memᴰ·head e) | inr r ↦ inr r ]
+]
+
+-- One set is part of another where the other has each of its numbers, and not where it lacks one.
+below-power : (k : ℕ) → k < 2 ^ k
+below-power zero = omega arith
+below-power (suc k) = omega (arith, below-power k, pow-succ' 2 k)
+
+part-same : (w part whole : ℕ) → part < 2 ^ w → ((q : ℕ) → bitOf q part ≡ 1 → bitOf q whole ≡ 1) → bitAnd part whole ≡ part
+part-same zero part whole h each = let e : part ≡ 0 = omega arith in rw e (and-zero-l whole)
+part-same (suc w) part whole h each =
+    let rest = part-same w (part / 2) (whole / 2) (omega (arith, pow-succ' 2 w)) λ q. each (suc q) in
+    elim (ℕ-discrete (part % 2) 1) [
+      | yes o ↦ omega (arith, and-step part whole, each 0 o, rest)
+      | no d ↦ omega (arith, and-step part whole, rest)
+    ]
+
+pub part-each : (part whole : ℕ) → ((q : ℕ) → bitOf q part ≡ 1 → bitOf q whole ≡ 1) → isPart part whole ≡ true
+part-each part whole each = eq-eqb (bitAnd part whole) part (part-same part part whole (below-power part) each)
+
+pub part-lacks : (part whole q : ℕ) → bitOf q part ≡ 1 → bitOf q whole ≡ 0 → isPart part whole ≡ false
+part-lacks part whole q has lacks =
+    ne-eqb (bitAnd part whole) part λ e. omega (arith, ap (bitOf q) e, bitOf-and q part whole)
 
 -- The lowest bit of a number that is not 0: it is there, no bit is below it, and it is within the width.
 abbrev Lowest : ℕ → ℕ → ℕ → Type 0

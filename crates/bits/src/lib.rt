@@ -1,7 +1,7 @@
 // Sets of small numbers, as the bits of one number.
 ghost use mathlib.Core.Path.{_≡_};
 ghost use Prim.Native.Nat.{_<_};
-ghost use Rattle.bits.specs.Bits.{bitOf, holdsBit, withNumber, Least, Without};
+ghost use Rattle.bits.specs.Bits.{bitOf, holdsBit, withNumber, isPart, Least, Without};
 
 // Is a number in a set of numbers below 32?
 pub fn has(set: u32, b: u8) -> bool
@@ -19,6 +19,13 @@ pub fn with(set: u32, b: usize) -> u32
     ensures { λ r. ⌜ r ≡ withNumber set b ⌝ }
 {
     set | (1u32 << b)
+}
+
+// Is every number of one set in the other?
+pub fn is_part(part: u32, whole: u32) -> bool
+    ensures { λ r. ⌜ r ≡ isPart part whole ⌝ }
+{
+    part & whole == part
 }
 
 // The least number of a set of numbers below 64 that is not empty.

@@ -12,7 +12,7 @@ use lib.ListN.{length, take, drop}
 use Rattle.layout.specs.Bytes.{byteAt, number16At, sameBytes}
 use Rattle.layout.specs.Card.{mark, leastHeader, wordCount, wordTable, productionTable, cardLength, entryAt, entryLength, spellingLength}
 use Rattle.layout.specs.Card.{maxNonterminals, maxWords, maxIndices, maxProductions, mostLetters, within}
-use Rattle.layout.specs.Card.{markFits, countsFit, lengthsFit, entryFits, entriesFit, productionsFit, cardRefusals, cardNumber}
+use Rattle.layout.specs.Card.{markFits, countsFit, lengthsFit, entryFits, entriesFit, productionsFit, namesLive, cardRefusals, cardNumber}
 use Rattle.layout.specs.Refusals.{unless}
 use Rattle.layout.specs.Answers.{nameNumber, namePart}
 use Rattle.layout.proofs.TestLaws.{both, limits, below-all}
@@ -100,8 +100,15 @@ module _ (card : List ℕ) (marked : markFits card ≡ true) where
         pub number-16 : productionsFit card ≡ false → 16 ≡ cardNumber card
         number-16 h = decides-first (cardRefusals card) (holding marked (holding counted (holding measured (holding fit (failing h)))))
 
-        pub number-0 : productionsFit card ≡ true → 0 ≡ cardNumber card
-        number-0 h = decides-first (cardRefusals card) (holding marked (holding counted (holding measured (holding fit (holding h accepts)))))
+        module _ (table : productionsFit card ≡ true) where
+          pub number-42 : namesLive card ≡ false → 42 ≡ cardNumber card
+          number-42 h =
+              decides-first (cardRefusals card) (holding marked (holding counted (holding measured (holding fit (holding table (failing h))))))
+
+          pub number-0 : namesLive card ≡ true → 0 ≡ cardNumber card
+          number-0 h =
+              decides-first (cardRefusals card)
+              (holding marked (holding counted (holding measured (holding fit (holding table (holding h accepts))))))
 
 -- A word that Name answers with 0.
 pub record Known (card : List ℕ) (word : ℕ) : Type 0 where

@@ -1,2 +1,4 @@
 pub mod Laws
 pub mod Accepted
+pub mod FieldLaws
+pub mod NameLaws

@@ -1,10 +1,12 @@
 -- What the card's productions, as the code has them, mean as rules of a grammar.
 use Prim.Native.Nat.{ℕ, _+_, _<_}
 use mathlib.Core.Path.{_≡_}
+use mathlib.Core.Bool.{Bool, _&&_}
 use mathlib.Core.List.{List, [], _∷_}
+use lib.Dec.{eqb}
 use Rattle.grammar.specs.Rewriting as grammar
 use Rattle.layout.specs.Bytes.{byteAt}
-use Rattle.layout.specs.Card.{productionTable, productionCount, cardNumber}
+use Rattle.layout.specs.Card.{productionTable, productionCount, kindFits, cardNumber}
 use Rattle.card.specs.declared.Action.{Action}
 use Rattle.card.specs.declared.Action.the-variants.{Take, Keep, Give}
 use Rattle.card.specs.declared.Production.{Production}
@@ -29,6 +31,10 @@ pub record FieldsAt (card : List ℕ) (at : ℕ) (f : Fields) : Type 0 where
   pub c : f .c ≡ byteAt card (at + 3)
   pub g : f .g ≡ byteAt card (at + 4)
   pub last : f .last ≡ byteAt card (at + 5)
+
+-- Do they fit the table of kinds?
+abbrev pub fieldsFit : List ℕ → Fields → Bool
+fieldsFit card f = kindFits card (f .kind) (f .a) (f .b) (f .c) (f .g) && eqb (f .last) 0
 
 -- Production m of an accepted card, whose table of productions starts at `table`.
 pub record ProductionThere (card : List ℕ) (table m : ℕ) : Type 0 where

@@ -3,6 +3,7 @@
 // asked of an accepted card.
 mod entries;
 mod header;
+mod names;
 mod numbers;
 mod productions;
 
@@ -143,7 +144,7 @@ pub enum Production {
     },
 }
 
-// Refusals 11 to 14 and 16 in their order, each over the whole card; 0 where the card is accepted.
+// Refusals 11 to 14, 16 and 42 in their order, each over the whole card; 0 where the card is accepted.
 pub fn card_number(card: &[u8]) -> u64
     ensures { λ r. ⌜ r ≡ cardNumber (now (card .entry)) ⌝ }
 {
@@ -159,12 +160,15 @@ pub fn card_number(card: &[u8]) -> u64
     }
     // These two look at the whole card whatever the other finds: the order of refusals stands here alone.
     let fit = entries::entries_fit(card, view);
-    let table = productions::productions_fit(card, view);
+    let table = productions::check(card, view);
     if !fit {
         return 14;
     }
-    if !table {
+    if !table.fit {
         return 16;
+    }
+    if !table.live {
+        return 42;
     }
     0
 }

@@ -1,14 +1,19 @@
-// Refusal 16: each production by the table of kinds; and what its six bytes mean.
+// Refusals 16 and 42: each production by the table of kinds, and the names on their two sides; and what the six bytes mean.
 use crate::Action;
 use crate::Card;
 use crate::Production;
+use crate::names::Names;
+use crate::names::with_names;
 use crate::numbers::within;
+use bits::is_part;
+ghost use mathlib.Core.Bool.{true};
 ghost use mathlib.Core.Path.{_≡_};
 ghost use Prim.Native.Nat.{_<_, _≤_, _+_};
 ghost use lib.ListN.{length};
-ghost use Rattle.layout.specs.Card.{productionTable, productionAt, productionLength, cardLength, ruleOf};
-ghost use Rattle.layout.specs.Card.{wordProductionFits, indexFits, pairFits, kindFits, productionFits, productionsFit};
-ghost use Rattle.card.specs.Productions.{ruleFrom, FieldsAt};
+ghost use Rattle.layout.specs.Card.{productionLength, cardLength, ruleOf};
+ghost use Rattle.layout.specs.Card.{countsFit, wordProductionFits, indexFits, pairFits, kindFits};
+ghost use Rattle.card.specs.Names.{CheckedOf};
+ghost use Rattle.card.specs.Productions.{ruleFrom, FieldsAt, fieldsFit};
 ghost use Rattle.card.specs.View.{ViewOf};
 
 // The six bytes of a production.
@@ -19,6 +24,12 @@ pub struct Fields {
     pub c: u8,
     pub g: u8,
     pub last: u8,
+}
+
+// Do all productions fit; and if so, is no name of theirs dead?
+pub struct Checked {
+    pub fit: bool,
+    pub live: bool,
 }
 
 pub fn fields_at(card: &[u8], at: usize) -> Fields
@@ -55,10 +66,7 @@ fn word_production_fits(card: &[u8], a: u8, b: u8, c: u8, g: u8) -> bool
 fn index_fits(card: &[u8], kind: u8, g: u8) -> bool
     ensures { λ r. ⌜ r ≡ indexFits (now (card .entry)) kind g ⌝ }
 {
-    if kind == 3 {
-        return g == 0;
-    }
-    if kind == 4 {
+    if within(3, 4, kind as usize) {
         return g == 0;
     }
     within(1, Card::of(card).indices, g as usize)
@@ -92,32 +100,38 @@ fn kind_fits(card: &[u8], kind: u8, a: u8, b: u8, c: u8, g: u8) -> bool
     pair_fits(card, a, b, c, index_fits(card, kind, g))
 }
 
-fn production_fits(card: &[u8], table: usize, m: usize) -> bool
-    requires { ⌜ (table ≡ productionTable (now card)) × (table < 65536) × (m < 256)
-        × (productionAt (now card) m + productionLength ≤ length (now card)) ⌝ }
-    ensures { λ r. ⌜ r ≡ productionFits (now (card .entry)) m ⌝ }
+fn production_fits(card: &[u8], f: Fields) -> bool
+    ensures { λ r. ⌜ r ≡ fieldsFit (now (card .entry)) f ⌝ }
 {
-    let f = fields_at(card, Card::production_at(table, m));
     if f.last != 0 {
         return false;
     }
     kind_fits(card, f.kind, f.a, f.b, f.c, f.g)
 }
 
-pub fn productions_fit(card: &[u8], view: Card) -> bool
-    requires { ⌜ ViewOf (now card) view × (cardLength (now card) ≤ length (now card)) ⌝ }
-    ensures { λ r. ⌜ r ≡ productionsFit (now (card .entry)) ⌝ }
+pub fn check(card: &[u8], view: Card) -> Checked
+    requires { ⌜ ViewOf (now card) view × (countsFit (now card) ≡ true) × (cardLength (now card) ≤ length (now card)) ⌝ }
+    ensures { λ r. ⌜ CheckedOf (now (card .entry)) r ⌝ }
 {
     let count = view.productions;
     let table = view.production_table();
+    let mut names = Names { left: 0, right: 0 };
     let mut m = 0;
     while m < count {
-        if !production_fits(card, table, m) {
-            return false;
+        let f = fields_at(card, Card::production_at(table, m));
+        if !production_fits(card, f) {
+            return Checked {
+                fit: false,
+                live: false,
+            };
         }
+        names = with_names(names, f.kind, f.a, f.b, f.c);
         m += 1;
     }
-    true
+    Checked {
+        fit: true,
+        live: is_part(names.right, names.left),
+    }
 }
 
 // B is the side and C the dependent.

@@ -130,6 +130,37 @@ fn faults() {
     change(card, 0, b'l', 0, b'l', 137);
 }
 
+// Names on the right of a production and on the left of none (document 02, Paper 4).
+fn dead_names() {
+    print::text(b"dead names\n");
+    // A seventh name that stands nowhere; on the left alone; then as production 10's side and dependent, production 5's, and as both.
+    let seven = with(tomato(), 4, 7);
+    change(seven, 4, 7, 4, 7, 138);
+    change(seven, 133, 6, 133, 6, 138);
+    change(seven, 135, 6, 135, 6, 138);
+    change(seven, 134, 6, 134, 6, 138);
+    change(seven, 104, 6, 104, 6, 138);
+    change(seven, 105, 6, 105, 6, 138);
+    change(seven, 134, 6, 135, 6, 138);
+    // On the right, and on the left: of a word production; of the production that has it on its right; of one that leads back to it alone,
+    // so that no words come of it; and of one that has an eighth name, which is dead.
+    let dead = with(seven, 135, 6);
+    change(dead, 97, 6, 97, 6, 138);
+    change(seven, 134, 6, 133, 6, 138);
+    change(dead, 127, 6, 128, 6, 138);
+    change(with(dead, 4, 8), 127, 6, 129, 7, 138);
+    // R and M stand on the left of a word production alone: another name there.
+    change(tomato(), 73, 3, 73, 3, 138);
+    change(tomato(), 91, 5, 91, 5, 138);
+    // Beside the other faults, which come first.
+    change(dead, 137, 1, 137, 1, 138);
+    change(dead, 71, 1, 71, 1, 138);
+    change(dead, 8, 13, 8, 13, 138);
+    change(dead, 4, 7, 4, 7, 137);
+    change(dead, 6, 9, 6, 9, 138);
+    change(dead, 3, b'2', 3, b'2', 138);
+}
+
 fn limits() {
     print::text(b"largest\n");
     let card = largest();
@@ -158,6 +189,7 @@ fn main() {
     kinds();
     equal_words();
     faults();
+    dead_names();
     limits();
     names::all();
     productions::all();

@@ -32,6 +32,8 @@ pub fn all() {
     name(with(tomato(), 12, 0), 138, 0);
     name(with(tomato(), 12, 0), 138, 5);
     name(with(tomato(), 72, 7), 138, 1);
+    name(with(tomato(), 91, 5), 138, 1);
+    name(with(tomato(), 91, 5), 138, 5);
     name(largest(), 780, 31);
     name(largest(), 780, 32);
     name(alike(), 780, 0);

@@ -20,3 +20,5 @@ pub mod PairsLaws
 pub mod PairsInside
 pub mod PairsCount
 pub mod EveryPlan
+pub mod Moves
+pub mod DeadNames

@@ -6,12 +6,12 @@ use native.Mathlib.Omega.{arith}
 use native.Mathlib.Decide.{ℕ-discrete}
 use mathlib.Core.Path.{_≡_, refl, sym, _∙_, ap, subst}
 use mathlib.Core.Logic.{_⊎_, inl, inr}
-use mathlib.Core.Bool.{Bool, true, false, false≢true}
+use mathlib.Core.Bool.{Bool, true, false, _&&_, _||_, and-false, or-true, false≢true}
 use mathlib.Core.List.{List, [], _∷_, map, List·Memᴰ, List·Memᴰ·head, List·Memᴰ·tail, List·Memᴰ·not-nil, List·Memᴰ·cases-cons, List·Memᴰ·append-cases, List·Memᴰ·eq-of-singleton, Memᴰ·append-left, Memᴰ·append-right, Memᴰ·cast}
 use lib.Dec.{eqb}
 use lib.ListN.{length, length-append}
 use borrow.Author.Tests.{eq-eqb}
-use Rattle.grammar.specs.Lists.{Stands, here, there, Distinct, none, more, concatMap, only, upTo}
+use Rattle.grammar.specs.Lists.{Stands, here, there, Distinct, none, more, concatMap, only, upTo, allOf, someOf}
 
 -- A number is itself.
 pub eqb-self : (n : ℕ) → eqb n n ≡ true
@@ -46,6 +46,45 @@ in-only false m = absurd (List·Memᴰ·not-nil m)
 pub only-in : {A : Type 0} (b : Bool) (x : A) → b ≡ true → List·Memᴰ x (only b x)
 only-in true x e = List·Memᴰ·head refl
 only-in false x e = absurd (false≢true e)
+
+-- A test of every element holds where it holds of each, and not where it fails for one; a test of some one the other way.
+module _ {A : Type 0} (test : A → Bool) where
+  pub all-of : (l : List A) → ((x : A) → List·Memᴰ x l → test x ≡ true) → allOf test l ≡ true
+  all-of [] h = refl
+  all-of (x ∷ l) h = rw (h x (List·Memᴰ·head refl)) (all-of l λ y m. h y (List·Memᴰ·tail m))
+
+  pub not-all-of : (l : List A) → allOf test l ≡ false → (x : A) × List·Memᴰ x l × (test x ≡ false)
+  not-all-of [] e = absurd (false≢true (sym e))
+  not-all-of (x ∷ l) e = go (test x) refl e (not-all-of l)
+    where
+      go : (t : Bool) → test x ≡ t → (t && allOf test l) ≡ false
+          → (allOf test l ≡ false → (y : A) × List·Memᴰ y l × (test y ≡ false)) → (y : A) × List·Memᴰ y (x ∷ l) × (test y ≡ false)
+      go true h e further = let (y, m, f) = further e in (y, List·Memᴰ·tail m, f)
+      go false h e further = (x, List·Memᴰ·head refl, h)
+
+  pub of-all : {x : A} (l : List A) → allOf test l ≡ true → List·Memᴰ x l → test x ≡ true
+  of-all {x} l e m = go (test x) refl
+    where
+      one-fails : (l : List A) → List·Memᴰ x l → test x ≡ false → allOf test l ≡ false
+      one-fails (y ∷ l) (List·Memᴰ·head same) f = rw (← same, f)
+      one-fails (y ∷ l) (List·Memᴰ·tail m) f = rw (one-fails l m f) (and-false (test y))
+
+      go : (t : Bool) → test x ≡ t → t ≡ true
+      go true h = refl
+      go false h = sym (one-fails l m h) ∙ e
+
+  pub some-of : {x : A} (l : List A) → List·Memᴰ x l → test x ≡ true → someOf test l ≡ true
+  some-of (y ∷ l) (List·Memᴰ·head same) e = rw (← same, e)
+  some-of (y ∷ l) (List·Memᴰ·tail m) e = rw (some-of l m e) (or-true (test y))
+
+  pub of-some : (l : List A) → someOf test l ≡ true → (x : A) × List·Memᴰ x l × (test x ≡ true)
+  of-some [] e = absurd (false≢true e)
+  of-some (x ∷ l) e = go (test x) refl e (of-some l)
+    where
+      go : (t : Bool) → test x ≡ t → (t || someOf test l) ≡ true
+          → (someOf test l ≡ true → (y : A) × List·Memᴰ y l × (test y ≡ true)) → (y : A) × List·Memᴰ y (x ∷ l) × (test y ≡ true)
+      go true h e further = (x, List·Memᴰ·head refl, h)
+      go false h e further = let (y, m, f) = further e in (y, List·Memᴰ·tail m, f)
 
 -- The numbers below a bound.
 pub in-upTo : {k : ℕ} (n : ℕ) → List·Memᴰ k (upTo n) → k < n

@@ -1,5 +1,6 @@
 pub mod Lists
 pub mod Rewriting
+pub mod Names
 pub mod Input
 pub mod Items
 pub mod ItemList

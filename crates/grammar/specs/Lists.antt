@@ -1,6 +1,6 @@
 -- Words on lists that the definitions share. Nothing here is particular to grammars.
 use Prim.Native.Nat.{ℕ, zero, suc}
-use mathlib.Core.Bool.{Bool, true, false}
+use mathlib.Core.Bool.{Bool, true, false, _&&_, _||_}
 use mathlib.Core.List.{List, [], _∷_, _++_, List·Memᴰ}
 
 -- x stands at place k of the list, counted from 0
@@ -27,3 +27,12 @@ only false x = []
 abbrev pub upTo : ℕ → List ℕ
 upTo zero = []
 upTo (suc n) = n ∷ upTo n
+
+-- does the test hold of every element; of some one?
+abbrev pub allOf : {A : Type 0} → (A → Bool) → List A → Bool
+allOf test [] = true
+allOf test (x ∷ l) = test x && allOf test l
+
+abbrev pub someOf : {A : Type 0} → (A → Bool) → List A → Bool
+someOf test [] = false
+someOf test (x ∷ l) = test x || someOf test l

@@ -14,7 +14,7 @@ use Rattle.layout.specs.Refusals.{Refusal, unless, firstRefusal}
 use Rattle.layout.specs.Card.{nonterminalCount, wordCount, indexCount, productionCount, wordTable, productionTable, cardLength}
 use Rattle.layout.specs.Card.{headerLength, mostCardBytes, entryAt, entryLength, productionAt, productionLength}
 use Rattle.layout.specs.Card.{maxNonterminals, maxWords, maxIndices, maxProductions, within, cardRefusals, cardNumber}
-use Rattle.layout.specs.Card.{markFits, countsFit, lengthsFit, entriesFit, productionsFit}
+use Rattle.layout.specs.Card.{markFits, countsFit, lengthsFit, entriesFit, productionsFit, namesLive}
 use Rattle.layout.specs.Line.{wordsOf, isLineByte, allKnown, lineRefusals, lineNumber, mostWords}
 use Rattle.layout.specs.Answers.{inputRefusals, inputNumber, wordsIn, planPasses, checkNumber, nameNumber}
 use Rattle.layout.specs.Steps.{stepsOf}
@@ -28,6 +28,7 @@ pub record AcceptedCard (card : List ℕ) : Type 0 where
   pub measured : lengthsFit card ≡ true
   pub fit : entriesFit card ≡ true
   pub table : productionsFit card ≡ true
+  pub live : namesLive card ≡ true
 
 pub accepted-card : (card : List ℕ) → cardNumber card ≡ 0 → AcceptedCard card
 accepted-card card z =
@@ -38,6 +39,7 @@ accepted-card card z =
       measured = zero-holds l refl z (there (there here));
       fit = zero-holds l refl z (there (there (there here)));
       table = zero-holds l refl z (there (there (there (there here))));
+      live = zero-holds l refl z (there (there (there (there (there here)))));
     }
 
 -- Its counts, and its length.
@@ -122,10 +124,14 @@ accepted-line card line z =
       known = zero-holds l refl e (there (there (there here)));
     }
 
--- The numbers of card and line are at most 24, and none is 25.
-pub input-small : (card line : List ℕ) → inputNumber card line ≤ 24
-input-small card line = first-most (inputRefusals card line)
+-- A refusal has two digits.
+abbrev pub mostNumber : ℕ
+mostNumber = 99
 
+pub input-small : (card line : List ℕ) → inputNumber card line ≤ mostNumber
+input-small card line = omega (arith, first-most (inputRefusals card line))
+
+-- None of card and line is 25.
 pub input-other : (card line : List ℕ) → inputNumber card line ≡ 25 → ⊥
 input-other card line e = first-other 24 (inputRefusals card line) refl e
 
@@ -160,7 +166,7 @@ check-accepts card line plan z =
     let (e, f) = both-accept (inputRefusals card line) l z refl in
     (e, zero-holds l refl f here)
 
-pub check-small : (card line plan : List ℕ) → checkNumber card line plan ≤ 35
+pub check-small : (card line plan : List ℕ) → checkNumber card line plan ≤ mostNumber
 check-small card line plan =
     omega (arith, first-most (inputRefusals card line ++ (unless (planPasses card line (stepsOf plan)) 34 ∷ [])))
 

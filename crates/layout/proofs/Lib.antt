@@ -6,6 +6,7 @@ pub mod Spellings
 pub mod CardLaws
 pub mod CountedLaws
 pub mod RuleLaws
+pub mod DeadNames
 pub mod Feet
 pub mod Writing
 pub mod Lengths

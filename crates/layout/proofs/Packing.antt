@@ -1,4 +1,4 @@
--- Each part of a call's answer fits 16 bits, so that `pack` loses nothing: numbers are at most 35, words 24, items 65535, steps 47,
+-- Each part of a call's answer fits 16 bits, so that `pack` loses nothing: numbers have two digits, words are at most 24, items 65535, steps 47,
 -- and a plan that passes has fewer than half as many pairs as words.
 use Prim.Native.Nat.{ℕ, _+_, _*_, _-_, _≤_}
 use native.Mathlib.Omega.{arith}
@@ -16,25 +16,25 @@ use Rattle.layout.specs.Records.{capacity}
 use Rattle.layout.specs.Steps.{planRoom, stepsOf}
 use Rattle.layout.specs.Answers.{inputNumber, wordsIn, derivable, ReadAnswer, refusal, found, readAnswer}
 use Rattle.layout.specs.Answers.{checkNumber, planPairs, PairsAnswer, pairsWithin, pairsAnswer}
-use Rattle.layout.proofs.Accepting.{accepted-line, input-small, check-small}
+use Rattle.layout.proofs.Accepting.{mostNumber, accepted-line, input-small, check-small}
 use Rattle.layout.proofs.CardLaws.{card-one-sided}
 use Rattle.layout.proofs.Checking.{check-sound, steps-bytes}
 
 -- Read.
 pub record ReadFits (r : ReadAnswer) : Type 0 where
-  pub number : r .number ≤ 35
+  pub number : r .number ≤ mostNumber
   pub words : r .words ≤ 24
   pub items : r .items ≤ 65535
   pub steps : r .steps ≤ 47
 
-refusal-fits : (x : ℕ) → x ≤ 35 → ReadFits (refusal x)
+refusal-fits : (x : ℕ) → x ≤ mostNumber → ReadFits (refusal x)
 refusal-fits x h = record { number = h; words = omega arith; items = omega arith; steps = omega arith }
 
 found-fits : (f : Bool) (n count : ℕ) → n ≤ 24 → count ≤ 65535 → ReadFits (found f n count)
 found-fits true n count h k = record { number = omega arith; words = h; items = k; steps = omega arith }
 found-fits false n count h k = record { number = omega arith; words = h; items = k; steps = omega arith }
 
-answer-fits : (b r o f : Bool) (x n count : ℕ) → x ≤ 35 → (b ≡ true → n ≤ 24) → (o ≡ false → count ≤ 65535)
+answer-fits : (b r o f : Bool) (x n count : ℕ) → x ≤ mostNumber → (b ≡ true → n ≤ 24) → (o ≡ false → count ≤ 65535)
     → ReadFits (cond b (cond r (refusal 32) (cond o (refusal 31) (found f n count))) (refusal x))
 answer-fits false r o f x n count h k l = refusal-fits x h
 answer-fits true true o f x n count h k l = refusal-fits 32 (omega arith)
@@ -47,7 +47,7 @@ read-fits card line chartRoom room =
     let n = wordsIn line in
     let all = derivable card line in
     answer-fits (eqb x 0) (ltb room (planRoom n)) (ltb (capacity chartRoom) (length all)) (among (item 0 0 n bare) all) x n (length all)
-    (omega (arith, input-small card line)) (λ e. accepted-line card line (eqb-true x 0 e) .most-words)
+    (input-small card line) (λ e. accepted-line card line (eqb-true x 0 e) .most-words)
     (λ e. omega (arith, ltb-false (capacity chartRoom) (length all) e))
 
 -- Pairs: a plan of n words that passes has at most (n − 1) / 2.
@@ -69,7 +69,7 @@ passing-pairs card line bytes room e h =
     rw (eq-eqb (checkNumber card line bytes) 0 e, le-ltb room (2 * length (planPairs card (stepsOf bytes))) h)
 
 pub record PairsFit (r : PairsAnswer) : Type 0 where
-  pub number : r .number ≤ 35
+  pub number : r .number ≤ mostNumber
   pub count : length (r .pairs) ≤ 47
 
 within-fit : (short : Bool) (pairs : List Pair) → length pairs ≤ 47

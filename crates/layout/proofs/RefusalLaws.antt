@@ -88,6 +88,15 @@ both-accept [] m e n = (refl, e)
 both-accept (unless true number ∷ l) m e n = both-accept l m e (and-parts (ltb 0 number) (numbered l) n .1)
 both-accept (unless false number ∷ l) m e n = absurd (some-number number l n e)
 
+-- A number that the last one alone has shows that its condition does not hold.
+pub last-fails : (l : List Refusal) (holds : Bool) (x : ℕ) → names (suc x) l ≡ false → firstRefusal (l ++ (unless holds (suc x) ∷ [])) ≡ suc x
+    → holds ≡ false
+last-fails [] true x n e = absurd (omega arith)
+last-fails [] false x n e = refl
+last-fails (unless true number ∷ l) holds x n e = last-fails l holds x (or-parts (eqb number (suc x)) (names (suc x) l) n .1) e
+last-fails (unless false number ∷ l) holds x n e =
+    absurd (false≢true (sym (or-parts (eqb number (suc x)) (names (suc x) l) n .0) ∙ eq-eqb number (suc x) e))
+
 -- Bounds of the answer.
 pub first-most : (l : List Refusal) → firstRefusal l ≤ greatest l
 first-most [] = omega arith

@@ -18,7 +18,7 @@ use Rattle.layout.proofs.Accepting.{accepted-card}
 use Rattle.layout.proofs.CountedLaws.{stands-below, rule-there}
 
 -- A pair's three nonterminals, and its index.
-three : (card : List ℕ) (A B C : ℕ) (t : Bool) → pairFits card A B C t ≡ true
+pub three : (card : List ℕ) (A B C : ℕ) (t : Bool) → pairFits card A B C t ≡ true
     → (A < nonterminalCount card) × (B < nonterminalCount card) × (C < nonterminalCount card) × (t ≡ true)
 three card A B C t e =
     let N = nonterminalCount card in

@@ -3,13 +3,14 @@
 use Prim.Native.Nat.{ℕ}
 use native.Mathlib.Omega.{arith}
 use mathlib.Core.Path.{_≡_, refl, subst}
+use mathlib.Core.Bool.{true}
 use mathlib.Core.List.{List, [], _∷_, map, List·Memᴰ, List·Memᴰ·eq-of-singleton}
 use lib.ListN.{length}
 use Rattle.grammar.specs.Plan.{PlanStep}
 use Rattle.grammar.specs.Pairs.{pairsOf}
 use Rattle.grammar.proofs.ListLaws.{map-in}
 use Rattle.grammar.proofs.EveryPlan.{everyPlan, every-plan}
-use Rattle.layout.specs.Card.{headerLength, cardNumber, grammarOf}
+use Rattle.layout.specs.Card.{headerLength, namesLive, cardNumber, grammarOf}
 use Rattle.layout.specs.Steps.{pairsBytes, planSteps}
 use Rattle.layout.specs.Answers.{wordsIn, lineTest, ReadAnswer, readAnswer, refusal, Derives, checkNumber, pairsAnswer, PairsAnswer}
 use Rattle.layout.specs.Tomato.{tomatoCard, coirTakesMild, coirWoolTakesMildRich, coirWoolTakesRichMild, coirCoirTakesMildMild, coirCoirTakesMild, takesAlone, emptyLine, coirTakesCapital, coirGivesMild, coirTimes25, planOne, planTwo, planFour}
@@ -54,6 +55,7 @@ each-pairs line e derivation d =
 record Table : Type 0 where
   size : length tomatoCard ≡ 138
   card : cardNumber tomatoCard ≡ 0
+  names : namesLive tomatoCard ≡ true
   row1 : ReadRow coirTakesMild planOne 3 5 5 (0 ∷ 2 ∷ [])
   row2 : ReadRow coirWoolTakesMildRich planTwo 5 9 9 (0 ∷ 3 ∷ 1 ∷ 4 ∷ [])
   row3 : RefusedRow coirWoolTakesRichMild planTwo 25 5 8 34
@@ -75,6 +77,7 @@ table =
     record {
       size = refl;
       card = refl;
+      names = refl;
       row1 = record { answer = refl; each = each-pairs coirTakesMild refl; passes = refl; accepted = refl; written = refl };
       row2 = record { answer = refl; each = each-pairs coirWoolTakesMildRich refl; passes = refl; accepted = refl; written = refl };
       row3 = record { answer = refl; fails = refl; unpaired = refl };

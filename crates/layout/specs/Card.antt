@@ -1,11 +1,12 @@
--- Document 01, "The card", and the nursery's refusals 11 to 14 and 16 in "Refusals by who can cause them". (15 no longer occurs: document
--- 02, Paper 2, lets entries be spelled alike.)
+-- Document 01, "The card", and the nursery's refusals 11 to 14 and 16 in "Refusals by who can cause them"; document 02, Paper 4, adds 42.
+-- (15 no longer occurs: document 02, Paper 2, lets entries be spelled alike.)
 use Prim.Native.Nat.{ℕ, zero, suc, _+_, _*_}
 use mathlib.Core.Bool.{Bool, true, false, cond, _&&_, _||_}
 use mathlib.Core.List.{List, [], _∷_, map}
 use lib.Dec.{eqb, leb, ltb}
 use lib.ListN.{length, take, drop}
 use Rattle.grammar.specs.Rewriting.{Rule, Lexical, Spine, Action, Take, Keep, Give}
+use Rattle.grammar.specs.Names.{noDeadName}
 use Rattle.layout.specs.Bytes.{byteAt, number16At, isLetter, sameBytes, allBytes, allBelow, counted}
 use Rattle.layout.specs.Refusals.{Refusal, unless, firstRefusal}
 
@@ -149,7 +150,7 @@ pairFits card A B C index =
 
 -- An index where one is due, and 0 where none is: kinds 3 and 4 keep the stack.
 abbrev pub indexFits : List ℕ → ℕ → ℕ → Bool
-indexFits card kind g = cond (eqb kind 3 || eqb kind 4) (eqb g 0) (within 1 (indexCount card) g)
+indexFits card kind g = cond (within 3 4 kind) (eqb g 0) (within 1 (indexCount card) g)
 
 abbrev pub kindFits : List ℕ → ℕ → ℕ → ℕ → ℕ → ℕ → Bool
 kindFits card kind A B C g =
@@ -163,6 +164,10 @@ productionFits card m = let at = productionAt card m in
 abbrev pub productionsFit : List ℕ → Bool
 productionsFit card = allBelow (productionCount card) (productionFits card)
 
+-- 42: no nonterminal stands on the right of a production and on the left of none.
+abbrev pub namesLive : List ℕ → Bool
+namesLive card = noDeadName (grammarOf card)
+
 -- The refusals in their order, each over the whole card; the number is 0 where the card is accepted.
 abbrev pub cardRefusals : List ℕ → List Refusal
 cardRefusals card =
@@ -171,6 +176,7 @@ cardRefusals card =
     ∷ unless (lengthsFit card) 13
     ∷ unless (entriesFit card) 14
     ∷ unless (productionsFit card) 16
+    ∷ unless (namesLive card) 42
     ∷ []
 
 abbrev pub cardNumber : List ℕ → ℕ

@@ -9,6 +9,7 @@ use lib.ListN.{length}
 use Rattle.layout.specs.Card.{entryAt, spellingLength}
 use Rattle.layout.specs.Answers.{readPacked, pack, chartState, ChartAfter, PlanAfter}
 use Rattle.layout.specs.Answers.{nameNumber, nameAnswer, namePacked}
+use Rattle.layout.proofs.Accepting.{mostNumber}
 use Rattle.layout.proofs.Packing.{ReadFits, read-fits, pairs-fit}
 use Rattle.reader.specs.Read.{answerFrom, Reads}
 use Rattle.reader.specs.declared.read.Answer.{Answer}
@@ -41,10 +42,10 @@ module _ (card line oldChart oldPlan newChart newPlan : List ℕ) (a : Answer)
       }
 
 module _ (card line plan before after : List ℕ) (a : Paired) (paired : Pairs card line plan before after a) where
-  pub pairs-fit-code : (a .number ≤ 35) × (a .count ≤ 47)
+  pub pairs-fit-code : (a .number ≤ mostNumber) × (a .count ≤ 47)
   pairs-fit-code =
       let h = pairs-fit card line plan (length before) in
-      (subst (λ (x : ℕ). x ≤ 35) (sym (paired .number)) (h .number), subst (λ (x : ℕ). x ≤ 47) (sym (paired .count)) (h .count))
+      (subst (λ (x : ℕ). x ≤ mostNumber) (sym (paired .number)) (h .number), subst (λ (x : ℕ). x ≤ 47) (sym (paired .count)) (h .count))
 
   pub pairs-packed : PairsPacked card line plan before after (pack (a .number) (a .count) 0 0)
   pairs-packed = record { answer = rw (paired .number, paired .count) refl; room = paired .room }

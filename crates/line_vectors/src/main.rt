@@ -148,7 +148,7 @@ fn order() {
     );
 }
 
-// Cards with one fault more each time, the last refusal of the five first; the line has a fault too. Two entries spelled alike are no
+// Cards with one fault more each time, the last refusal of the six first; the line has a fault too. Two entries spelled alike are no
 // fault.
 fn cards() {
     let line = b"coir Takes";
@@ -161,6 +161,8 @@ fn cards() {
     print(accept(&card, line));
     print(accept(&card, b"coir takes mild"));
     print(accept(&card, b"wool takes rich"));
+    card[91] = 5;
+    print(accept(&card, line));
     card[72] = 7;
     print(accept(&card, line));
     card[24] = 0;

@@ -1,16 +1,18 @@
 -- Read's answer in each of its cases, and what the rooms hold with a number that says nothing of a chart.
--- The tests are decided in their order; a number of at most 24 is neither 25 nor 31.
+-- The tests are decided in their order; no number of card and line is 25 or 31.
 use Prim.Native.Nat.{ℕ, _≤_, _<_}
 use native.Mathlib.Omega.{arith}
-use mathlib.Core.Path.{_≡_}
+use mathlib.Core.Path.{_≡_, refl}
 use mathlib.Core.Bool.{true}
 use mathlib.Core.List.{List}
 use lib.Dec.{eqb}
 use lib.ListN.{length}
 use borrow.Author.Tests.{eq-eqb, ne-eqb, lt-ltb, le-ltb}
+use Rattle.layout.specs.Refusals.{firstRefusal}
 use Rattle.layout.specs.Records.{capacity}
 use Rattle.layout.specs.Steps.{planRoom}
-use Rattle.layout.specs.Answers.{inputNumber, wordsIn, derivable, startFound, refusal, found, readAnswer, chartState, untouched}
+use Rattle.layout.specs.Answers.{inputRefusals, inputNumber, wordsIn, derivable, startFound, refusal, found, readAnswer, chartState, untouched}
+use Rattle.layout.proofs.RefusalLaws.{first-other}
 
 module _ (card line : List ℕ) (chartRoom room : ℕ) where
   pub answer-refused : (inputNumber card line ≡ 0 → ⊥) → readAnswer card line chartRoom room ≡ refusal (inputNumber card line)
@@ -41,5 +43,7 @@ module _ (card line : List ℕ) (chartRoom room : ℕ) where
             le-ltb (capacity chartRoom) (length (derivable card line)) h,
           )
 
-pub no-chart : (number : ℕ) → (number ≡ 0 → ⊥) → number ≤ 24 → chartState number ≡ untouched
-no-chart number h k = rw (ne-eqb number 0 h, ne-eqb number 25 (λ e. omega arith), ne-eqb number 31 (λ e. omega arith))
+pub no-chart : (card line : List ℕ) → (inputNumber card line ≡ 0 → ⊥) → chartState (inputNumber card line) ≡ untouched
+no-chart card line h =
+    let l = inputRefusals card line in
+    rw (ne-eqb (firstRefusal l) 0 h, ne-eqb (firstRefusal l) 25 (first-other 24 l refl), ne-eqb (firstRefusal l) 31 (first-other 30 l refl))

@@ -11,7 +11,7 @@ use Rattle.layout.specs.Card.{cardNumber}
 use Rattle.layout.specs.Steps.{planRoom}
 use Rattle.layout.specs.Answers.{inputNumber, wordsIn, lineTest, derivable, startFound, ReadAnswer, refusal, found, readAnswer}
 use Rattle.layout.specs.Answers.{ChartState, chartState, ChartAfter, PlanAfter}
-use Rattle.layout.proofs.Accepting.{accepted-line, input-small, input-of-card}
+use Rattle.layout.proofs.Accepting.{accepted-line, input-of-card}
 use Rattle.layout.proofs.Checking.{plan-written}
 use Rattle.layout.proofs.Reading.{read-derivation, no-reading, derivation-read}
 use Rattle.line.specs.declared.Accepted.{Accepted}
@@ -85,7 +85,7 @@ ends-input card line oldChart oldPlan same h e =
     let number = inputNumber card line in
     let other : number ≡ 0 → ⊥ = λ z. h (same ∙ z) in
     reads (refusal number) (e ∙ ap refusal same) (answer-refused card line (length oldChart) (length oldPlan) other)
-    (subst (λ (t : ChartState). ChartAfter card line t oldChart oldChart) (sym (no-chart number other (input-small card line))) refl)
+    (subst (λ (t : ChartState). ChartAfter card line t oldChart oldChart) (sym (no-chart card line other)) refl)
     (subst (λ (t : Bool). PlanAfter card line t oldPlan oldPlan) (sym (ne-eqb number 0 other)) refl)
 
 pub ends-card : (card line oldChart oldPlan : List ℕ) {number : ℕ} {r : Answer} → number ≡ cardNumber card → (number ≡ 0 → ⊥)

@@ -15,9 +15,9 @@ use Rattle.grammar.specs.Plan.{PlanStep}
 use Rattle.grammar.specs.ItemList.{item, among}
 use Rattle.grammar.specs.Items.{bare}
 use Rattle.layout.specs.Steps.{planRoom}
-use Rattle.layout.specs.Answers.{inputNumber, wordsIn, derivable, refusal, found, outnumber, ReadAnswer, HasDerivation}
+use Rattle.layout.specs.Answers.{inputRefusals, inputNumber, wordsIn, derivable, refusal, found, outnumber, ReadAnswer, HasDerivation}
 use Rattle.layout.proofs.RefusalLaws.{first-other}
-use Rattle.layout.proofs.Accepting.{accepted-line, input-small}
+use Rattle.layout.proofs.Accepting.{accepted-line}
 use Rattle.layout.proofs.Reading.{no-reading, read-never-15, derivation-read}
 use Rattle.split.specs.Lines.{linesOf}
 use Rattle.sheet.specs.Sheet.{sheetRefusals, sheetNumber, ownPlanRoom, readNumber, Course, course, sheetCourse}
@@ -26,26 +26,27 @@ use Rattle.sheet.specs.Promise.{Order, lineAt}
 use Rattle.sheet.proofs.Within.{Within, short, fits, within}
 use Rattle.sheet.proofs.CourseLaws.{AllRead, no-line, one-line, course-all, line-fails, Went, to-end, up-to, went}
 
--- A line's number is none above 25 but 31. So it is never 32: the reader's own plan room is enough for 24 words.
-no-other : (b s o f : Bool) (x n count v : ℕ) → x ≤ 24 → (b ≡ true → s ≡ false) → 25 < v → (v ≡ 31 → ⊥)
+-- A line's number is none above 25 but 31 and what card and line give. So it is never 32: the reader's own plan room is enough for 24 words.
+no-other : (b s o f : Bool) (x n count v : ℕ) → (x ≡ v → ⊥) → (b ≡ true → s ≡ false) → 25 < v → (v ≡ 31 → ⊥)
     → cond b (cond s (refusal 32) (cond o (refusal 31) (found f n count))) (refusal x) .number ≡ v → ⊥
-no-other false s o f x n count v h k above not31 e = omega arith
+no-other false s o f x n count v h k above not31 e = h e
 no-other true true o f x n count v h k above not31 e = false≢true (sym (k refl))
 no-other true false true f x n count v h k above not31 e = not31 (sym e)
 no-other true false false true x n count v h k above not31 e = omega arith
 no-other true false false false x n count v h k above not31 e = omega arith
 
-never-other : (card : List ℕ) (chartRoom : ℕ) (line : List ℕ) (v : ℕ) → 25 < v → (v ≡ 31 → ⊥) → readNumber card chartRoom line ≡ v → ⊥
-never-other card chartRoom line v =
+never-other : (card : List ℕ) (chartRoom : ℕ) (line : List ℕ) (v : ℕ) → (inputNumber card line ≡ v → ⊥) → 25 < v → (v ≡ 31 → ⊥)
+    → readNumber card chartRoom line ≡ v → ⊥
+never-other card chartRoom line v other =
     let x = inputNumber card line in
     let n = wordsIn line in
     let all = derivable card line in
     no-other (eqb x 0) (ltb ownPlanRoom (planRoom n)) (outnumber all chartRoom) (among (item 0 0 n bare) all) x n (length all) v
-    (input-small card line)
+    other
     (λ e. le-ltb ownPlanRoom (planRoom n) (omega (arith, accepted-line card line (eqb-true x 0 e) .most-words)))
 
 pub never-short : (card : List ℕ) (chartRoom : ℕ) (line : List ℕ) → readNumber card chartRoom line ≡ 32 → ⊥
-never-short card chartRoom line = never-other card chartRoom line 32 (omega arith) (omega arith)
+never-short card chartRoom line = never-other card chartRoom line 32 (first-other 31 (inputRefusals card line) refl) (omega arith) (omega arith)
 
 -- The records' own numbers.
 own-number : {records : List SheetRecord} {room : ℕ} {a : SheetAnswer} → Within records room a → (a .number ≡ 0) ⊎ (a .number ≡ 33)
@@ -163,7 +164,7 @@ module _ (card sheet : List ℕ) (chartRoom room : ℕ) (plans : List (List Plan
   output-short e =
       by-number 33 (λ y. absurd (first-other 32 (sheetRefusals card sheet) refl y))
       (λ z. short-records number records room (went number (linesOf sheet))
-      (λ line. never-other card chartRoom line 33 (omega arith) (omega arith))
+      (λ line. never-other card chartRoom line 33 (first-other 32 (inputRefusals card line) refl) (omega arith) (omega arith))
       (sym (ap (λ (a : SheetAnswer). a .number) (lines-answer z)) ∙ e)) e
 
   -- Where a line fails, the answer is the same whatever plans the others have.

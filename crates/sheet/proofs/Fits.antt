@@ -1,4 +1,4 @@
--- Each part of a sheet's answer fits its bits, so that packing loses nothing: numbers are at most 41, places at most 64, and there are at
+-- Each part of a sheet's answer fits its bits, so that packing loses nothing: numbers have two digits, places at most 64, and there are at
 -- most 11 records a line.
 use Prim.Native.Nat.{ℕ, _+_, _*_, _≤_}
 use native.Mathlib.Omega.{arith}
@@ -17,6 +17,7 @@ use Rattle.layout.specs.Steps.{planBytes}
 use Rattle.layout.specs.Answers.{planPairs}
 use Rattle.layout.proofs.RefusalLaws.{zero-holds, both-accept, first-most}
 use Rattle.layout.proofs.Checking.{steps-bytes}
+use Rattle.layout.proofs.Accepting.{mostNumber}
 use Rattle.layout.proofs.Packing.{read-fits, passing-pairs-few}
 use Rattle.split.specs.Lines.{linesOf}
 use Rattle.sheet.specs.Sheet.{mostLines, sheetRefusals, sheetNumber, linesToRead, ownPlanRoom, readNumber, Course, sheetCourse}
@@ -60,11 +61,11 @@ course-few (up-to read line others a ne) = omega (arith, length-append read (lin
 
 -- The parts of an answer with at most n lines read and at most m records.
 pub record SheetFits (n m : ℕ) (a : SheetAnswer) : Type 0 where
-  pub number : a .number ≤ 41
+  pub number : a .number ≤ mostNumber
   pub line : a .line ≤ n
   pub records : length (a .records) ≤ m
 
-refused-fits : (n m x : ℕ) → x ≤ 41 → SheetFits n m (refusedAt x 0)
+refused-fits : (n m x : ℕ) → x ≤ mostNumber → SheetFits n m (refusedAt x 0)
 refused-fits n m x h = record { number = h; line = omega arith; records = omega arith }
 
 within-fits : {records : List SheetRecord} {room : ℕ} {a : SheetAnswer} (n : ℕ) → Within records room a → SheetFits n (length records) a
@@ -72,7 +73,7 @@ within-fits {records} n (short h) = refused-fits n (length records) 33 (omega ar
 within-fits n (fits h) = record { number = omega arith; line = omega arith; records = omega arith }
 
 ended-fits : {number : List ℕ → ℕ} {lines : List (List ℕ)} {c : Course} (records : List SheetRecord) (room : ℕ) → Went number lines c
-    → ((line : List ℕ) → number line ≤ 35)
+    → ((line : List ℕ) → number line ≤ mostNumber)
     → SheetFits (length lines) (length records) (courseAnswer number c records room)
 ended-fits {lines = lines} records room (to-end a) h = within-fits (length lines) (within records room)
 ended-fits {number} records room (up-to read line others a ne) h =
@@ -91,7 +92,7 @@ answer-fits card sheet chartRoom room plans = by-test (eqb (sheetNumber card she
     by-test true =
         ended-fits (recordsFrom card 0 plans) room (went (readNumber card chartRoom) (linesToRead card sheet))
         (λ line. read-fits card line chartRoom ownPlanRoom .number)
-    by-test false = refused-fits _ _ (sheetNumber card sheet) (first-most (sheetRefusals card sheet))
+    by-test false = refused-fits _ _ (sheetNumber card sheet) (omega (arith, first-most (sheetRefusals card sheet)))
 
 -- Of the promise. The records of all lines are at most 704.
 all-few : {card sheet oldChart oldOutput newChart newOutput : List ℕ} {number line count : ℕ}
@@ -115,7 +116,7 @@ output-enough {card} {sheet} {oldChart} {oldOutput} p h e =
     )
 
 pub sheet-fits : {card sheet oldChart oldOutput newChart newOutput : List ℕ} {number line count : ℕ}
-    → Sheet card sheet oldChart oldOutput newChart newOutput number line count → (number ≤ 41) × (line ≤ 64) × (count ≤ 704)
+    → Sheet card sheet oldChart oldOutput newChart newOutput number line count → (number ≤ mostNumber) × (line ≤ 64) × (count ≤ 704)
 sheet-fits {card} {sheet} {oldChart} {oldOutput} p =
     let m = length oldChart in
     let small = answer-fits card sheet m (length oldOutput) (p .plans) in

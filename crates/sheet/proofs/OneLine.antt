@@ -19,7 +19,7 @@ use Rattle.layout.specs.Card.{grammarOf, cardNumber}
 use Rattle.layout.specs.Steps.{planBytes, planRoom}
 use Rattle.layout.specs.Answers.{inputNumber, wordsIn, derivable, refusal, found, outnumber, ReadAnswer, readAnswer, checkNumber}
 use Rattle.layout.specs.Answers.{ChartState, chartState, ChartAfter, PairsAnswer, planPairs, pairsAnswer}
-use Rattle.layout.proofs.Accepting.{accepted-line, input-of-card, input-small}
+use Rattle.layout.proofs.Accepting.{accepted-line, input-of-card}
 use Rattle.layout.proofs.Checking.{steps-bytes}
 use Rattle.layout.proofs.Packing.{passing-pairs-few, passing-pairs}
 use Rattle.reader.proofs.Answers.{answer-refused, no-chart}
@@ -130,7 +130,7 @@ module _ {card line oldChart oldOutput newChart newOutput : List ℕ} {number at
       as-refused (λ z. some-number (sym own-input ∙ z))
       (refused-answer card line m k (s .plans) refuses ∙ ap (λ (n : ℕ). refusedAt n 0) first)
       (subst (λ (t : ChartState). ChartAfter card line t oldChart newChart)
-      (sym (no-chart own (λ z. some-number (sym own-input ∙ z)) (omega (arith, own-input, input-small card line)))) same)
+      (sym (ap chartState own-input ∙ no-chart card line some-number)) same)
 
   -- It is not: the sheet's course is that of the one line.
   module _ (accepted : cardNumber card ≡ 0) where

@@ -7,10 +7,10 @@ use mathlib.Core.Path.{_≡_, _∙_}
 use borrow.Author.Needs.{needs}
 use Prim.Native.Nat.{ℕ}
 use denote.Ref.{now}
-use Rattle.layout.specs.Card.{markFits, countsFit, lengthsFit, entriesFit}
+use Rattle.layout.specs.Card.{markFits, countsFit, lengthsFit, entriesFit, productionsFit, namesLive}
 use Rattle.layout.proofs.TestLaws.{refused, passed}
 use Rattle.layout.proofs.Accepting.{length-fits}
-use Rattle.card.proofs.Accepted.{header-there, counts-same, number-11, number-12, number-13, number-14, number-16, number-0}
+use Rattle.card.proofs.Accepted.{header-there, counts-same, number-11, number-12, number-13, number-14, number-16, number-42, number-0}
 use Rattle.card.proofs.card_number.Statement.{statement}
 use Rattle.card.proofs.card_number.Tie as tie
 
@@ -35,6 +35,13 @@ measured c = passed (c .before .lengths-fit .ensures) (c .if3 .left)
 
 fitted : (c : tie.Else4) → entriesFit (card-3 (c .before .before .before)) ≡ true
 fitted c = passed (c .before .before .entries-fit .ensures) (c .if4 .left)
+
+tabled : (c : tie.Else5) → productionsFit (card-3 (c .before .before .before .before .before)) ≡ true
+tabled c = passed (c .before .before .before .check .ensures .fit) (c .if5 .left)
+
+-- Where the productions fit, the names decide.
+named : (c : tie.Else5) → c .before .before .before .check .result .live ≡ namesLive (card-3 (c .before .before .before .before .before))
+named c = let e = c .before .before .before .check .ensures .live in rw (tabled c) at e
 
 mark-fits-requires : tie.Need-mark-fits-requires
 mark-fits-requires c κs = search needs
@@ -68,9 +75,11 @@ entries-fit-requires : tie.Need-entries-fit-requires
 entries-fit-requires c κs =
     let room = length-fits (card-3 c) (measured c) in omega arith
 
-productions-fit-requires : tie.Need-productions-fit-requires
-productions-fit-requires c κs =
-    let room = length-fits (card-3 (c .before)) (measured (c .before)) in omega arith
+check-requires : tie.Need-check-requires
+check-requires c κs =
+    let on = c .before in
+    let room = length-fits (card-3 on) (measured on) in
+    (on .before .before .before .before .of .ensures, counted (on .before .before), omega arith)
 
 returns-4 : tie.Need-returns-4
 returns-4 c =
@@ -80,15 +89,23 @@ returns-4 c =
 
 returns-5 : tie.Need-returns-5
 returns-5 c =
-    let on = c .before .before .before .before in
+    let on = c .before .before .before .before .before in
     number-16 (card-3 on) (marked (on .before .before .before .before .before)) (counted (on .before .before)) (measured on)
-    (fitted (c .before)) (refused (c .before .before .productions-fit .ensures) (c .if5 .taken))
+    (fitted (c .before .before)) (refused (c .before .before .before .check .ensures .fit) (c .if5 .taken))
 
 returns-6 : tie.Need-returns-6
 returns-6 c =
-    let on = c .before .before .before .before in
+    let fit = c .before .before in
+    let on = fit .before .before .before .before .before in
+    number-42 (card-3 on) (marked (on .before .before .before .before .before)) (counted (on .before .before)) (measured on)
+    (fitted (fit .before .before)) (tabled fit) (refused (named fit) (c .if6 .taken))
+
+returns-7 : tie.Need-returns-7
+returns-7 c =
+    let fit = c .before .before in
+    let on = fit .before .before .before .before .before in
     number-0 (card-3 on) (marked (on .before .before .before .before .before)) (counted (on .before .before)) (measured on)
-    (fitted (c .before)) (passed (c .before .before .productions-fit .ensures) (c .if5 .left))
+    (fitted (fit .before .before)) (tabled fit) (passed (named fit) (c .if6 .left))
 
 pub card-number-spec : {M : Type 1} → statement M
 card-number-spec =
@@ -102,7 +119,8 @@ card-number-spec =
     lengths-fit-requires
     returns-3
     entries-fit-requires
-    productions-fit-requires
+    check-requires
     returns-4
     returns-5
-    returns-6)
+    returns-6
+    returns-7)
