@@ -268,6 +268,7 @@ static void card_limits(void)
     try_card(138, 71, 1);
     try_card(138, 72, 7);
     try_card(138, 137, 1);
+    try_card(138, 91, 5);
 }
 
 /* As which word each place was read, from the plan that try_read left last. */
@@ -311,12 +312,16 @@ static void two_alike(void)
 
 /*
  * Both words make the same nonterminal: there is one item for it, and a plan may say either. Which
- * one lig_read says is free.
+ * one lig_read says is free. The other nonterminal stands on no left then, so the card is refused
+ * until it stands on no right.
  */
 static void two_for_one(void)
 {
     printf("== both words make nonterminal 2\n");
     card[79] = card[73];
+    try_card(138, 0, 'L');
+    card[110] = card[73];
+    card[122] = card[73];
     try_read("coir takes mild", 79, 20);
     try_read("coir takes mild", 80, 20);
     try_plan("coir takes mild", 20, 4, 0, 2);

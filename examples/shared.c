@@ -34,6 +34,7 @@ const char *refusal_reason(unsigned number)
     case LIG_CARD_LENGTHS: return "the card's length does not fit its counts";
     case LIG_CARD_ENTRY: return "a word of the card is badly written";
     case LIG_CARD_PRODUCTION: return "a production of the card is badly written";
+    case LIG_CARD_DEAD_NAME: return "a name of the card is on the right of a rule and on no left";
     case LIG_LINE_BYTE: return "only a to z, 0 to 9 and spaces are allowed";
     case LIG_LINE_EMPTY: return "there is no word";
     case LIG_LINE_LONG: return "there are more than 24 words";

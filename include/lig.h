@@ -60,10 +60,10 @@ extern "C" {
  * changes an answer or a layout raises the major number, and one that only adds a call the minor
  * one.
  */
-#define LIG_VERSION_MAJOR 2
+#define LIG_VERSION_MAJOR 3
 #define LIG_VERSION_MINOR 0
-#define LIG_VERSION_PATCH 1
-#define LIG_VERSION "2.0.1"
+#define LIG_VERSION_PATCH 0
+#define LIG_VERSION "3.0.0"
 
 /*
  * Refusals
@@ -83,6 +83,7 @@ extern "C" {
 #define LIG_CARD_LENGTHS 13    /* a table's offset or the card's length does not fit the counts */
 #define LIG_CARD_ENTRY 14      /* a word's entry: its length, a letter or its padding is wrong */
 #define LIG_CARD_PRODUCTION 16 /* a production has a wrong kind, name, word, index or zero */
+#define LIG_CARD_DEAD_NAME 42  /* a nonterminal stands on the right of a production, left of none */
 
 /* The shift leader who typed the line. They are tried in this order, NO_READING last of all. */
 #define LIG_LINE_BYTE 22       /* a byte that is not a to z, 0 to 9 or a space */
@@ -99,7 +100,7 @@ extern "C" {
 #define LIG_WRONG_PLAN 34  /* the plan is no leftmost derivation of the line */
 #define LIG_WORD_NUMBER 35 /* the card has no word of that number */
 
-/* Who can mend a refusal: the tens of its number, but for 41; 0 for a number that is none. */
+/* Who can mend a refusal: the tens of its number, but for 41 and 42; 0 for any other number. */
 #define LIG_BY_NURSERY 1
 #define LIG_BY_SHIFT_LEADER 2
 #define LIG_BY_PROGRAMMER 3
@@ -108,6 +109,8 @@ static inline unsigned lig_mender(unsigned number)
 {
     if (number == LIG_SHEET_LONG)
         return LIG_BY_SHIFT_LEADER;
+    if (number == LIG_CARD_DEAD_NAME)
+        return LIG_BY_NURSERY;
     if (number < 10 || number >= 40)
         return 0;
     if (number < 20)
@@ -201,16 +204,22 @@ static inline size_t lig_records(uint64_t answer)
 /*
  * lig_card_check: is this a card?
  *
- * Answers LIG_OK, or the first of 11, 12, 13, 14, 16 whose condition holds. No part beside the
+ * Answers LIG_OK, or the first of 11, 12, 13, 14, 16, 42 whose condition holds. No part beside the
  * number. The other calls make this check themselves, before anything else.
+ *
+ * 42 finds a name that was misspelled in its numbering: a nonterminal that stands on the right of a
+ * production of kind 1 to 6 and on the left of none. A word production, kind 0, counts on the left;
+ * on its right it has a word. A production with such a name on its right takes part in no
+ * derivation of any line, and without it every line has the same derivations. A nonterminal that
+ * stands on no right side need not stand on a left side.
  */
 uint64_t lig_card_check(const uint8_t *card, size_t card_length);
 
 /*
  * lig_read: is this line an order under the card?
  *
- * Refusals, in this order: the card's 11 to 16; the line's 22, 21, 23, 24; the rooms' 32, 31; then
- * 25. The parts of the answer and the rooms afterwards:
+ * Refusals, in this order: the card's 11 to 16, 42; the line's 22, 21, 23, 24; the rooms' 32, 31;
+ * then 25. The parts of the answer and the rooms afterwards:
  *
  *     number      words   items   steps        chart room            plan room
  *     LIG_OK      n       all     2n - 1       the chart             the plan
@@ -269,7 +278,7 @@ uint64_t lig_read(const uint8_t *card, size_t card_length,
  * may come from anywhere. Answers LIG_OK exactly where its steps in their order, each replacing the
  * leftmost nonterminal, derive the line and every from, split and to is right; the word of a step
  * may be any that is spelled as the line's word at that place. Else the first of: the card's
- * 11 to 16; the line's 22, 21, 23, 24; 34. No part beside the number.
+ * 11 to 16, 42; the line's 22, 21, 23, 24; 34. No part beside the number.
  */
 uint64_t lig_check(const uint8_t *card, size_t card_length,
                    const uint8_t *line, size_t line_length,
@@ -299,9 +308,10 @@ uint64_t lig_pairs(const uint8_t *card, size_t card_length,
  * that a place of a line is read as, examples/line-by-line.c shows how its number is found in the
  * plan.
  *
- * Refusals, in this order: the card's 11 to 16; then 35, for a number that is not below the card's
- * count of words. With LIG_OK the spelling is lig_length bytes, 1 to 11, from card + lig_offset on:
- * the card's own bytes, with no zero behind them to rely on. With a refusal both parts are 0.
+ * Refusals, in this order: the card's 11 to 16, 42; then 35, for a number that is not below the
+ * card's count of words. With LIG_OK the spelling is lig_length bytes, 1 to 11, from
+ * card + lig_offset on: the card's own bytes, with no zero behind them to rely on. With a refusal
+ * both parts are 0.
  */
 uint64_t lig_name(const uint8_t *card, size_t card_length, size_t word);
 
@@ -314,15 +324,16 @@ uint64_t lig_name(const uint8_t *card, size_t card_length, size_t word);
  * 32 does not occur. The first line that is not read ends it, and an empty one is not. Only where
  * all are read are records written.
  *
- * Refusals, in this order: the card's 11 to 16; 41; the number that lig_read has for the first line
- * that is not read, one of 22, 21, 23, 24, 31, 25; then 33, where the output room is under
+ * Refusals, in this order: the card's 11 to 16, 42; 41; the number that lig_read has for the first
+ * line that is not read, one of 22, 21, 23, 24, 31, 25; then 33, where the output room is under
  * LIG_SHEET_RECORD_BYTES bytes for each record.
  *
  *     number          line        records   chart room              output room
  *     LIG_OK          0           all       as the reads left it    the records
  *     33              0           0         as the reads left it    untouched
  *     21 to 25, 31    its place   0         as the reads left it    untouched
- *     11 to 16, 41    0           0         untouched               untouched
+ *     11 to 16, 42    0           0         untouched               untouched
+ *     41              0           0         untouched               untouched
  *
  * "As the reads left it": each read does with the chart room what lig_read says, from where the
  * read before left it, the one that fails included; no line after that one is read. So with 31 the
@@ -350,12 +361,12 @@ uint64_t lig_sheet(const uint8_t *card, size_t card_length,
  * and the arguments on the stack included:
  *
  *     line of        1 to 6 words   7 to 12 words   13 to 24 words
- *     lig_card_check      96              96              96
+ *     lig_card_check     120             120             120
  *     lig_read        14,792          15,936          63,272
  *     lig_read/few    14,792          15,936          36,280
- *     lig_check        1,256           1,256           1,256
- *     lig_pairs        1,336           1,336           1,336
- *     lig_name           112             112             112
+ *     lig_check        1,240           1,240           1,240
+ *     lig_pairs        1,320           1,320           1,320
+ *     lig_name           136             136             136
  *     lig_sheet       17,256          18,400          65,736
  *     lig_sheet/few   17,256          18,400          38,744
  *
@@ -370,12 +381,12 @@ uint64_t lig_sheet(const uint8_t *card, size_t card_length,
  * cards and lines. The longest median that one run saw, on two cores of a virtual machine (AMD
  * EPYC) with nothing else running, and the workload that took it:
  *
- *     lig_card_check          355   limits, 780 bytes
- *     lig_read         23,071,809   worst found, 24 words
- *     lig_check             2,373   limits, 23 words
- *     lig_pairs             2,442   limits, 23 words
- *     lig_name                356   limits, 780 bytes
- *     lig_sheet        24,646,718   sheet of 64: ambiguous, 24 words
+ *     lig_card_check          261   limits, 780 bytes
+ *     lig_read         25,243,572   worst found, 24 words
+ *     lig_check             1,695   limits, 23 words
+ *     lig_pairs             1,942   limits, 23 words
+ *     lig_name                266   limits, 780 bytes
+ *     lig_sheet        26,791,983   sheet of 64: ambiguous, 24 words
  *
  * "limits" is a card at its limits; "worst found" is the card and line, of 62,469 items, on which a
  * search found lig_read slowest. lig_sheet takes about as long as lig_read takes for all of its
