@@ -1,6 +1,7 @@
 //! Cards drawn at random.
 
 use crate::alike;
+use crate::names::repair::repair;
 use independent::random::Random;
 use independent::write::{CardText, tomato};
 
@@ -47,6 +48,9 @@ impl Drawn {
     }
 }
 
+/// One card in so many keeps the dead names that it was drawn with.
+const CARDS_A_DEAD_ONE: usize = 16;
+
 pub fn draw(random: &mut Random) -> Drawn {
     let dense = random.once_in(12);
     let mut text = if dense {
@@ -66,6 +70,9 @@ pub fn draw(random: &mut Random) -> Drawn {
         let entries = alike::entries(text.words.len(), random);
         text.words = spellings(random, entries);
         alike::share(&mut text, random);
+    }
+    if !random.once_in(CARDS_A_DEAD_ONE) {
+        repair(&mut text, random);
     }
     let most_alike = alike::most_alike(&text);
     Drawn {

@@ -78,11 +78,9 @@ impl Comparison<'_> {
 
     /// The card check, and Name for every word and for numbers that no word has.
     fn card(&mut self, input: &Input) -> Outcome {
-        if let Err(number) = input.card {
-            self.tally.number(number);
-        } else {
-            self.tally.number(35);
-        }
+        let number = input.card.as_ref().err().copied().unwrap_or(0);
+        self.tally.names.card(input.card_bytes, number);
+        self.tally.number(if number == 0 { 35 } else { number });
         let words = input.card.as_ref().map_or(3, |card| card.words.len());
         let beyond = [
             words,
@@ -114,6 +112,10 @@ impl Comparison<'_> {
             let rooms = [Some(chart.length()), Some(plan.length()), None];
             let verdict = verify::refused_read(calls, input, &mut chart, &mut plan);
             blame(calls, input, &[], rooms, verdict)?;
+        }
+        if number == 42 {
+            self.never_applied(input)?;
+            self.hidden(input, [chart.length(), plan.length()])?;
         }
         let random_plan = damage::random_plan(self.random, 5, 3);
         self.plan(input, &random_plan)

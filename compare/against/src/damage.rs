@@ -1,5 +1,6 @@
 //! Damage to cards, lines and plans.
 
+use crate::names;
 use independent::card::{Card, Production};
 use independent::random::Random;
 use independent::write::CardText;
@@ -14,7 +15,7 @@ pub fn card(card: &mut Vec<u8>, random: &mut Random) {
 fn card_fault(card: &mut Vec<u8>, random: &mut Random) {
     let words = card.get(5).map_or(0, |&count| usize::from(count)).min(32);
     let productions_at = 12 + 12 * words;
-    match random.below(12) {
+    match random.below(14) {
         0 => card.truncate(random.below(card.len() + 1)),
         1 => card.truncate(card.len().saturating_sub(random.between(1, 13))),
         2 => card.extend((0..random.between(1, 13)).map(|_| random.byte())),
@@ -25,6 +26,7 @@ fn card_fault(card: &mut Vec<u8>, random: &mut Random) {
         7 => equal_entries(card, random, words),
         8 => length_byte(card, random, words),
         9 => padding(card, random, words),
+        10 | 11 => names::fault::dead_name(card, random),
         _ => production_byte(card, random, productions_at),
     }
 }

@@ -127,18 +127,23 @@ fn all_of_32() -> Vec<Edge> {
     ]
 }
 
-/// Two entries alike that need each other: a feed before a setting.
+/// Two entries alike that need each other: a feed before a setting. Where only one of the two has
+/// its production, the other is dead, or is made by a word that no line has.
 fn two_of_a_kind() -> Vec<Edge> {
     let [feed, setting] = [1, 2];
     let join = [3, 0, feed, setting, 0, 0];
     let both = [join, word(feed, 0), word(setting, 1)];
-    let card_of = |productions: &[[u8; 6]]| card(&["mild", "mild"], productions);
+    let feed_alone = [join, word(feed, 0), word(setting, 2)];
+    let setting_alone = [join, word(feed, 2), word(setting, 1)];
+    let card_of = |productions: &[[u8; 6]]| card(&["mild", "mild", "rain"], productions);
     vec![
         edge(&card_of(&both), "mild mild", 0, 5),
         edge(&card_of(&both), "mild", 25, 2),
         edge(&card_of(&both), "mild mild mild", 25, 8),
-        edge(&card_of(&both[..2]), "mild mild", 25, 2),
-        edge(&card_of(&[join, word(setting, 1)]), "mild mild", 25, 2),
+        edge(&card_of(&feed_alone), "mild mild", 25, 2),
+        edge(&card_of(&setting_alone), "mild mild", 25, 2),
+        edge(&card_of(&both[..2]), "mild mild", 42, 0),
+        edge(&card_of(&[join, word(setting, 1)]), "mild mild", 42, 0),
         edge(&card_of(&[word(0, 0)]), "mild", 0, 1),
         edge(&card_of(&[word(0, 1)]), "mild", 0, 1),
         edge(&card_of(&[word(0, 0), word(0, 1)]), "mild", 0, 1),

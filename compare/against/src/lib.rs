@@ -10,6 +10,7 @@ pub mod disagreement;
 pub mod edges;
 pub mod expected;
 pub mod lines;
+pub mod names;
 pub mod room;
 pub mod rooms;
 pub mod sheet;

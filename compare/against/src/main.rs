@@ -11,6 +11,7 @@ use against::damage;
 use against::edges;
 use against::expected::Scratch;
 use against::lines;
+use against::names;
 use against::rooms;
 use against::sheet;
 use against::tally::Tally;
@@ -23,6 +24,9 @@ const DEFAULT_CASES: u64 = 120_000;
 
 /// One case in so many has a sheet as well.
 const CASES_A_SHEET: u64 = 16;
+
+/// One case in so many gets a dead name on purpose, beside those of damaged cards.
+const CASES_A_DEAD_NAME: usize = 48;
 
 const EFFORT: Effort = Effort {
     other_rooms: 2,
@@ -105,13 +109,14 @@ fn edge_cases(who: Who, tally: &mut Tally, scratch: &mut Scratch) -> Outcome {
         comparison.run(&card, &line)?;
         comparison.tally.cases += 1;
     }
-    for rooms in rooms::all() {
-        comparison.rooms(&rooms)?;
-        comparison.tally.cases += 1;
-    }
-    comparison.room_over_32_bits()?;
+    room_edges(&mut comparison)?;
     for edge in edges::shared_spellings() {
         comparison.known(&edge)?;
+        comparison.tally.cases += 1;
+    }
+    for edge in names::edges::all() {
+        comparison.known(&edge)?;
+        comparison.six_calls(&edge)?;
         comparison.tally.cases += 1;
     }
     comparison.effort = &ALL_SHEET_ROOMS;
@@ -120,6 +125,18 @@ fn edge_cases(who: Who, tally: &mut Tally, scratch: &mut Scratch) -> Outcome {
         comparison.tally.cases += 1;
     }
     Ok(())
+}
+
+fn room_edges(comparison: &mut Comparison) -> Outcome {
+    for rooms in rooms::all() {
+        comparison.rooms(&rooms)?;
+        comparison.tally.cases += 1;
+    }
+    for rooms in rooms::all_with_a_dead_name() {
+        comparison.refused_rooms(&rooms)?;
+        comparison.tally.cases += 1;
+    }
+    comparison.room_over_32_bits()
 }
 
 fn run(options: &Options, case: u64, tally: &mut Tally, scratch: &mut Scratch) -> Outcome {
@@ -131,6 +148,9 @@ fn run(options: &Options, case: u64, tally: &mut Tally, scratch: &mut Scratch) -
     let mut card = drawn.text.bytes();
     if random.once_in(8) {
         damage::card(&mut card, &mut random);
+    }
+    if random.once_in(CASES_A_DEAD_NAME) {
+        names::fault::dead_name(&mut card, &mut random);
     }
     if random.once_in(8) {
         damage::line(&mut line, &drawn.text, &mut random);

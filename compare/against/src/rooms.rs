@@ -5,6 +5,7 @@ use crate::calls::ChartParser;
 use crate::compare::{Comparison, Outcome, blame};
 use crate::edges;
 use crate::expected::{FULL_ROOM, Input, Items, PLAN_ROOM};
+use crate::room::Room;
 use crate::verify;
 use independent::answers::ReadAnswer;
 use independent::write::tomato;
@@ -49,6 +50,19 @@ pub fn all() -> Vec<Rooms> {
         .collect()
 }
 
+/// The same lines and lengths under cards with a dead name: the start has a production more, and on
+/// its right is a nonterminal more.
+pub fn all_with_a_dead_name() -> Vec<Rooms> {
+    let mut list = all();
+    for Rooms { card, .. } in &mut list {
+        let name = card[4];
+        card.extend([3, 0, 0, name, 0, 0]);
+        card[4] += 1;
+        card[7] += 1;
+    }
+    list
+}
+
 /// The last word has no production, so that a line of it has no item, and room of no bytes is
 /// enough.
 fn no_items() -> Rooms {
@@ -82,6 +96,26 @@ impl Comparison<'_> {
             .map(|&chart| (chart, PLAN_ROOM))
             .collect();
         self.reads_in(&input, &items, &lengths).map(|_| ())
+    }
+
+    /// Read under a card that gets 42, which leaves all rooms as they were.
+    pub fn refused_rooms(&mut self, rooms: &Rooms) -> Outcome {
+        let input = Input::new(&rooms.card, &rooms.line);
+        let known = verify::expect("number", input.card.as_ref().err(), Some(&42));
+        blame(&ChartParser, &input, &[], [None; 3], known)?;
+        for &length in &rooms.lengths {
+            self.tally.number(42);
+            let mut chart = Room::new(length, self.random);
+            let mut plan = Room::new(self.random.below(PLAN_ROOM + 1), self.random);
+            let lent = [Some(length), Some(plan.length()), None];
+            for &calls in self.who {
+                chart.restore();
+                plan.restore();
+                let verdict = verify::refused_read(calls, &input, &mut chart, &mut plan);
+                blame(calls, &input, &[], lent, verdict)?;
+            }
+        }
+        Ok(())
     }
 
     /// A room whose length takes more than 32 bits: the lowest 32 of them would not be enough for

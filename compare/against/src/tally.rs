@@ -1,10 +1,12 @@
 //! How often each number was expected, and what else was done.
 
+mod names;
 mod numbers;
 mod shared;
 
 use independent::answers::SheetAnswer;
 use independent::rewriting::Found;
+use names::Names;
 use numbers::Numbers;
 use shared::{Questions, Shared};
 use std::fmt;
@@ -28,12 +30,15 @@ pub struct Tally {
     one_list: Questions,
     several_lists: Questions,
     pub shared: Shared,
+    pub names: Names,
 }
 
 /// Another number is never expected, so that whoever answers it disagrees.
-pub const REFUSALS: [u16; 15] = [11, 12, 13, 14, 16, 21, 22, 23, 24, 25, 31, 32, 33, 34, 35];
+pub const REFUSALS: [u16; 16] = [
+    11, 12, 13, 14, 16, 42, 21, 22, 23, 24, 25, 31, 32, 33, 34, 35,
+];
 
-pub const SHEET_REFUSALS: [u16; 13] = [11, 12, 13, 14, 16, 21, 22, 23, 24, 25, 31, 33, 41];
+pub const SHEET_REFUSALS: [u16; 14] = [11, 12, 13, 14, 16, 42, 21, 22, 23, 24, 25, 31, 33, 41];
 
 pub const LINE_REFUSALS: [u16; 6] = [21, 22, 23, 24, 25, 31];
 
@@ -65,7 +70,7 @@ impl Tally {
     }
 
     /// What never occurred: refusals of any call, of sheets, and of lines that are not the first of
-    /// a sheet; and what shared spellings should have brought about.
+    /// a sheet; and what shared spellings and dead names should have brought about.
     pub fn missing(&self) -> Vec<String> {
         let refusals = [
             ("a call", self.numbers.missing(&REFUSALS)),
@@ -79,11 +84,11 @@ impl Tally {
             let named = move |number| format!("{number} of {of}");
             numbers.into_iter().map(named)
         });
-        let shared = self.shared.counts().into_iter();
-        let shared = shared.filter(|(_, count)| *count == 0);
-        refusals
-            .chain(shared.map(|(what, _)| what.to_string()))
-            .collect()
+        let shared = self.shared.counts();
+        let shared = shared.map(|(what, count)| (what.to_string(), count));
+        let counts = shared.into_iter().chain(self.names.counts());
+        let never = counts.filter(|(_, count)| *count == 0);
+        refusals.chain(never.map(|(what, _)| what)).collect()
     }
 
     /// Numbers that were expected although they are not in the lists.
@@ -119,6 +124,9 @@ impl fmt::Display for Tally {
         self.write_recognizer(f)?;
         if self.shared.lines > 0 {
             self.write_shared(f)?;
+        }
+        if self.numbers.count(42) > 0 {
+            self.write_names(f)?;
         }
         if !self.sheets.is_empty() {
             self.write_sheets(f)?;
@@ -158,6 +166,15 @@ impl Tally {
     fn write_shared(&self, f: &mut fmt::Formatter) -> fmt::Result {
         let counts = self.shared.counts();
         let counts = counts.map(|(what, count)| format!("{what} {count}"));
+        write!(f, "; {}", counts.join(", "))
+    }
+
+    fn write_names(&self, f: &mut fmt::Formatter) -> fmt::Result {
+        let counts = self.names.counts().into_iter();
+        let counts: Vec<String> = counts
+            .filter(|(_, count)| *count > 0)
+            .map(|(what, count)| format!("{what} {count}"))
+            .collect();
         write!(f, "; {}", counts.join(", "))
     }
 

@@ -20,7 +20,9 @@ pub const FULL_ROOM: usize = 16 * 65_535;
 pub const PLAN_ROOM: usize = 4 * (2 * 24 - 1);
 
 impl Workload {
+    /// The card has to be accepted: the times of a refused one would say nothing about reading.
     fn new(name: String, card: Vec<u8>, line: Vec<u8>, words: usize) -> Self {
+        assert_eq!(chart::card_check(&card), 0, "the card of {name}");
         Workload {
             name,
             card,
@@ -82,12 +84,11 @@ pub fn tomato_of(materials: usize) -> Workload {
 
 /// The same line under the tomato card with twins: two words at each place, one item of both.
 fn twins_of(materials: usize) -> Workload {
-    let line = tomato_of(materials);
-    Workload {
-        name: line.name.replace("tomato", "tomato with twins"),
-        card: tomato_with_twins().bytes(),
-        ..line
-    }
+    let Workload {
+        name, line, words, ..
+    } = tomato_of(materials);
+    let name = name.replace("tomato", "tomato with twins");
+    Workload::new(name, tomato_with_twins().bytes(), line, words)
 }
 
 /// One nonterminal and one index, under which every stretch is read in every way.

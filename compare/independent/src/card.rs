@@ -1,6 +1,6 @@
 //! Checking and decoding a card, straight from the layout.
 
-/// An accepted card.
+/// A card as its layout has it, accepted or with dead names.
 #[derive(Clone, Debug)]
 pub struct Card {
     pub nonterminals: u8,
@@ -38,9 +38,38 @@ pub enum Action {
     Give(u8),
 }
 
+impl Production {
+    pub fn left(&self) -> u8 {
+        match self {
+            Production::Word { head, .. } => *head,
+            Production::Pair(pair) => pair.head,
+        }
+    }
+
+    /// The nonterminals on the right. A word production has none: its word is a number of another
+    /// kind.
+    pub fn right(&self) -> Option<[u8; 2]> {
+        match self {
+            Production::Word { .. } => None,
+            Production::Pair(pair) => Some([pair.first, pair.second]),
+        }
+    }
+}
+
 impl Card {
-    /// The refusals 11 to 14 and 16, in this order. Entries may be equal: 15 no longer occurs.
+    /// The refusals 11 to 14, 16 and 42, in this order. Entries may be equal: 15 no longer occurs.
     pub fn accept(bytes: &[u8]) -> Result<Self, u16> {
+        let card = Card::decode(bytes)?;
+        if card.dead_names().is_empty() {
+            Ok(card)
+        } else {
+            Err(42)
+        }
+    }
+
+    /// The refusals 11 to 14 and 16, in this order. Without them a card can be decoded, whatever
+    /// names it has.
+    pub fn decode(bytes: &[u8]) -> Result<Self, u16> {
         if bytes.len() < 12 || &bytes[0..4] != b"LIG1" {
             return Err(11);
         }
@@ -67,6 +96,14 @@ impl Card {
             words,
             productions: productions.ok_or(16_u16)?,
         })
+    }
+
+    /// The nonterminals that stand on the right of a production and on the left of none, each as
+    /// often as it stands there.
+    pub fn dead_names(&self) -> Vec<u8> {
+        let has_a_left = |name: &u8| self.productions.iter().any(|other| other.left() == *name);
+        let right = self.productions.iter().filter_map(Production::right);
+        right.flatten().filter(|name| !has_a_left(name)).collect()
     }
 
     /// All words with this spelling, by number.

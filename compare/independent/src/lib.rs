@@ -1,5 +1,5 @@
-//! The order reader of document 01, with the sheets and the shared spellings of document 02,
-//! written a second time and in several ways:
+//! The order reader of document 01, with the sheets, the shared spellings and the dead names of
+//! document 02, written a second time and in several ways:
 //!
 //! - `card`, `sheet`, `line`: the refusals and the decoding that the slow ways share;
 //! - `rewriting`: a recognizer from the definition of rewriting, one list of words after the other;

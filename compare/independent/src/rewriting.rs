@@ -26,12 +26,14 @@ pub struct Found {
     pub lists: usize,
 }
 
-/// Whether the line has a derivation, looked for in no more than `work` trials of a production,
-/// those of all lists together.
+/// Whether the line has a derivation, looked for in no more than `work` trials of a list and of a
+/// production, those of all lists together.
 pub fn derives(card: &Card, line: &[Spelled], mut work: usize) -> Result<Found, TooMuchWork> {
     let mut lists = 0;
     for words in word_lists(line) {
         lists += 1;
+        // Without any production a list costs nothing else, and there may be very many.
+        work = work.checked_sub(1).ok_or(TooMuchWork)?;
         let mut search = Search {
             card,
             words: &words,

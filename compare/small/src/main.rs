@@ -1,11 +1,13 @@
 //! Small worlds gone through whole: all lines of up to six words under some hundred small cards,
-//! with spellings that differ and with words spelled alike; all plans with small numbers for lines
-//! of up to two words; and all sheets of up to seven bytes.
+//! with spellings that differ, with words spelled alike and with a dead name; all cards of up to
+//! two or three productions; all plans with small numbers for lines of up to two words; and all
+//! sheets of up to seven bytes.
 //!
 //! `small [--rival-only]`; the option compares the independent chart parser and leaves the library
 //! out.
 
 mod enumerate;
+mod names;
 mod plans;
 mod sheets;
 mod worlds;
@@ -26,6 +28,7 @@ const MOST_WORDS: usize = 6;
 /// Cards of each kind, with spellings that differ and with words spelled alike.
 const ROUNDS: usize = 16;
 const ROUNDS_ALIKE: usize = 4;
+const ROUNDS_DEAD: usize = 2;
 
 const EFFORT: Effort = Effort {
     other_rooms: 1,
@@ -64,7 +67,14 @@ fn all_comparisons(who: Who) -> Outcome {
         "words spelled alike",
         &worlds::cards_alike(ROUNDS_ALIKE),
     )?;
+    all_lines(
+        who,
+        "a dead name",
+        &worlds::cards_with_a_dead_name(ROUNDS_DEAD),
+    )?;
+    all_names(who)?;
     all_plans(who)?;
+    all_dead_plans(who)?;
     all_sheets(who)
 }
 
@@ -142,6 +152,35 @@ fn all_plans(who: Who) -> Outcome {
     println!(
         "{} plans checked against the literal replayer, {} of them pass",
         tried.all, tried.passing
+    );
+    Ok(())
+}
+
+fn all_dead_plans(who: Who) -> Outcome {
+    let mut tried = Tried::default();
+    for text in worlds::dead_cards_for_plans() {
+        let card = text.bytes();
+        for words in 1..=2 {
+            let line = line(&["a"], &vec![0; words]);
+            plans::try_dead(who, &card, &line, words, &mut tried)?;
+        }
+    }
+    println!(
+        "{} plans under cards with dead names, {} of them derivations, none by a dead name",
+        tried.all, tried.passing
+    );
+    Ok(())
+}
+
+fn all_names(who: Who) -> Outcome {
+    let mut tried = names::Tried::default();
+    compare(who, &mut Tally::default(), |comparison| {
+        names::try_all(comparison, &mut tried)
+    })?;
+    assert_eq!(tried, names::KNOWN);
+    println!(
+        "all {} cards of few productions, {} of them with dead names",
+        tried.all, tried.dead
     );
     Ok(())
 }

@@ -45,6 +45,46 @@ pub fn cards_alike(rounds: usize) -> Vec<CardText> {
     list
 }
 
+/// The same with two or three nonterminals, one of which is dead: its left sides are another's now,
+/// and it has a place on the right, or many.
+pub fn cards_with_a_dead_name(rounds: usize) -> Vec<CardText> {
+    let mut random = Random::new(3);
+    let mut list = Vec::new();
+    for _ in 0..rounds {
+        for nonterminals in 2..=3 {
+            for indices in 0..=2 {
+                for name in 0..nonterminals {
+                    let mut text = card(&mut random, nonterminals, indices, &["a", "b"]);
+                    make_dead(&mut random, &mut text, name as u8);
+                    list.push(text);
+                }
+            }
+        }
+    }
+    list
+}
+
+fn make_dead(random: &mut Random, text: &mut CardText, name: u8) {
+    let other = (name + 1) % text.nonterminals;
+    let off_the_right = random.once_in(2);
+    for production in &mut text.productions {
+        let names = match (off_the_right, production[0]) {
+            (true, 1..) => &mut production[1..4],
+            _ => &mut production[1..2],
+        };
+        for place in names.iter_mut().filter(|place| **place == name) {
+            *place = other;
+        }
+    }
+    let [b, c] = *random.pick(&[[name, other], [other, name], [name, name]]);
+    let (kind, index) = match text.indices {
+        0 => (*random.pick(&[3, 4]), 0),
+        _ => *random.pick(&[(1, 1), (2, 1), (3, 0), (4, 0), (5, 1), (6, 1)]),
+    };
+    let at = random.below(text.productions.len() + 1);
+    text.productions.insert(at, [kind, other, b, c, index, 0]);
+}
+
 /// Every nonterminal makes a word; three to ten productions more, half of the time with one of
 /// each kind among them.
 fn card(random: &mut Random, nonterminals: usize, indices: usize, spellings: &[&str]) -> CardText {
@@ -121,9 +161,29 @@ pub fn cards_for_plans() -> Vec<CardText> {
     ]
 }
 
+/// Cards of three or four productions that get 42, for plans that are tried all the same: a
+/// production with the dead name stands first, in the middle or last.
+pub fn dead_cards_for_plans() -> Vec<CardText> {
+    let card = |productions: &[[u8; 6]]| CardText {
+        nonterminals: 2,
+        indices: 1,
+        words: vec![String::from("a")],
+        productions: productions.to_vec(),
+    };
+    let a_word = [0, 0, 0, 0, 0, 0];
+    let [keep, give, take] = [[3, 0, 0, 0, 0, 0], [5, 0, 0, 0, 1, 0], [2, 0, 0, 0, 1, 0]];
+    vec![
+        card(&[[3, 0, 0, 1, 0, 0], a_word, keep]),
+        card(&[a_word, [4, 0, 0, 1, 0, 0], keep]),
+        card(&[a_word, keep, [3, 0, 1, 1, 0, 0]]),
+        card(&[a_word, give, take, [6, 0, 1, 0, 1, 0]]),
+    ]
+}
+
 /// Cards whose short sheets are all tried. The first one reads a b b with a pair; the second, on
-/// which b is no word, reads a a a with one; the third too, by two words spelled alike.
-pub fn cards_for_sheets() -> [CardText; 3] {
+/// which b is no word, reads a a a with one; the third too, by two words spelled alike. The fourth
+/// is the first without the productions that b's nonterminal is on the left of, so that it is dead.
+pub fn cards_for_sheets() -> [CardText; 4] {
     let card = |nonterminals, words: &[&str], productions: &[[u8; 6]]| CardText {
         nonterminals,
         indices: 1,
@@ -138,5 +198,6 @@ pub fn cards_for_sheets() -> [CardText; 3] {
         card(2, &["a", "b"], &[a_word, b_word, give, take]),
         card(1, &["a"], &[a_word, give_alone, take_alone]),
         card(2, &["a", "a"], &[a_word, b_word, give, take]),
+        card(2, &["a", "b"], &[a_word, give]),
     ]
 }

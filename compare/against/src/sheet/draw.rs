@@ -2,6 +2,7 @@
 
 use crate::damage;
 use crate::lines;
+use crate::names::table;
 use independent::chart;
 use independent::random::Random;
 use independent::write::CardText;
@@ -42,9 +43,14 @@ fn line_count(random: &mut Random) -> usize {
     }
 }
 
-/// Lines that are read; under a card that hardly reads any, one that may not be.
+/// Lines that are read; under a card that hardly reads any, one that may not be. Where a name is
+/// dead, they are read without the productions that never apply.
 fn stock(card: &CardText, random: &mut Random, most_words: usize) -> Vec<Vec<u8>> {
-    let card_bytes = card.bytes();
+    let living = CardText {
+        productions: table::living(&card.productions),
+        ..card.clone()
+    };
+    let card_bytes = living.bytes();
     let [mut with_pairs, mut without] = [Vec::new(), Vec::new()];
     for _ in 0..DRAWN_LINES {
         let line = drawn_line(card, random, most_words);

@@ -106,8 +106,18 @@ fn several_charts() -> Vec<String> {
 /// Each refusal of a card, under sheets that would be refused too.
 fn refused_cards() -> Vec<(Vec<u8>, Vec<u8>)> {
     let card = tomato().bytes();
-    // The mark, a count, an offset, the length of an entry, its first letter, a kind.
-    let mut cards: Vec<Vec<u8>> = [(0, 0), (4, 0), (8, 13), (12, 0), (13, b'A'), (72, 7)]
+    // The mark, a count, an offset, the length of an entry, its first letter, a kind, the only left
+    // side of a name.
+    let faults = [
+        (0, 0),
+        (4, 0),
+        (8, 13),
+        (12, 0),
+        (13, b'A'),
+        (72, 7),
+        (73, 3),
+    ];
+    let mut cards: Vec<Vec<u8>> = faults
         .into_iter()
         .map(|(at, byte)| {
             let mut card = card.clone();

@@ -11,7 +11,7 @@ pub struct Card<'a> {
 }
 
 impl<'a> Card<'a> {
-    /// The refusals 11 to 14 and 16, in this order.
+    /// The refusals 11 to 14, 16 and 42, in this order.
     pub fn accept(card: &'a [u8]) -> Result<Self, u16> {
         let Some((header, tables)) = card.split_first_chunk::<12>() else {
             return Err(11);
@@ -37,8 +37,11 @@ impl<'a> Card<'a> {
         if !words.iter().all(keeps_layout) {
             return Err(14);
         }
-        if !keep_table(productions, n, v, x) {
+        let Some(names) = Names::of(productions, n, v, x) else {
             return Err(16);
+        };
+        if names.right & !names.left != 0 {
+            return Err(42);
         }
         Ok(Card {
             nonterminals: usize::from(n),
@@ -66,16 +69,35 @@ fn keeps_layout(entry: &[u8; 12]) -> bool {
     letters_and_digits(spelling) == HIGH_BITS & used && spelling & !used == 0
 }
 
-/// For each kind, the bound of B, the bound of C, the least and the greatest index.
-fn keep_table(productions: &[[u8; 6]], n: u8, v: u8, x: u8) -> bool {
-    let word = (v, 1, 0, 0);
-    let keep = (n, n, 0, 0);
-    let indexed = (n, n, 1, x);
-    let limits = [word, indexed, indexed, keep, keep, indexed, indexed];
-    productions.iter().all(|&[kind, a, b, c, g, zero]| {
-        let Some(&(b_bound, c_bound, least, greatest)) = limits.get(usize::from(kind)) else {
-            return false;
-        };
-        (a < n) & (b < b_bound) & (c < c_bound) & (g >= least) & (g <= greatest) & (zero == 0)
-    })
+/// The nonterminals on the left and on the right of productions, a bit for each.
+struct Names {
+    left: u32,
+    right: u32,
+}
+
+impl Names {
+    /// None if a production breaks the table. For each kind there are the bound of B, the bound of
+    /// C, the least and the greatest index, and all bits if B and C are nonterminals.
+    fn of(productions: &[[u8; 6]], n: u8, v: u8, x: u8) -> Option<Self> {
+        let word = (v, 1, 0, 0, 0);
+        let keep = (n, n, 0, 0, u32::MAX);
+        let indexed = (n, n, 1, x, u32::MAX);
+        let limits = [word, indexed, indexed, keep, keep, indexed, indexed];
+        let [mut left, mut right] = [0; 2];
+        for &[kind, a, b, c, g, zero] in productions {
+            let &(b_bound, c_bound, least, greatest, names) = limits.get(usize::from(kind))?;
+            let in_range = (a < n) & (b < b_bound) & (c < c_bound);
+            if !(in_range & (g >= least) & (g <= greatest) & (zero == 0)) {
+                return None;
+            }
+            left |= bit(a);
+            right |= (bit(b) | bit(c)) & names;
+        }
+        Some(Names { left, right })
+    }
+}
+
+/// Nonterminals are below 16 and words below 32, so that no bit is lost.
+fn bit(number: u8) -> u32 {
+    1_u32.wrapping_shl(number.into())
 }
