@@ -95,9 +95,9 @@ pub fn all() {
     }
     kind(255, 2);
     production(tomato(), 138, 255);
-    production(with(tomato(), 91, 5), 138, 3);
     production(tomato(), 135, 10);
     production(tomato(), 5, 0);
     production(tomato(), 0, 0);
     production(with(tomato(), 5, 255), 138, 255);
+    production(with(tomato(), 91, 5), 138, 3);
 }

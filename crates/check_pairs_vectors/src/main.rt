@@ -208,13 +208,16 @@ fn refusals() {
     refused(b"no plan", &card, b"takes", b"");
 }
 
-// The second word spelled as the first, and made by the same nonterminal: the word step for "coir" may name either production.
+// The second word spelled as the first, and made by the same nonterminal: the word step for "coir" may name either production. The
+// nonterminal that made it goes from the right sides too, where it would be a dead name.
 fn alike() {
     let mut card = vectors::TOMATO;
     card[25] = b'c';
     card[27] = b'i';
     card[28] = b'r';
     card[79] = 2;
+    card[110] = 2;
+    card[122] = 2;
     every(
         b"two words spelled alike",
         &card,

@@ -77,6 +77,15 @@ with-requires c κs = search needs
 production-requires-6 : tie.Need-production-requires-6 Inv-loop μ-loop
 production-requires-6 c κs = search needs
 
+tomato-requires-7 : tie.Need-tomato-requires-7 Inv-loop μ-loop
+tomato-requires-7 c κs = search needs
+
+with-requires-2 : tie.Need-with-requires-2 Inv-loop μ-loop
+with-requires-2 c κs = search needs
+
+production-requires-7 : tie.Need-production-requires-7 Inv-loop μ-loop
+production-requires-7 c κs = search needs
+
 returns : tie.Need-returns Inv-loop μ-loop
 returns c = search needs
 
@@ -108,4 +117,7 @@ all-spec =
     tomato-requires-6
     with-requires
     production-requires-6
+    tomato-requires-7
+    with-requires-2
+    production-requires-7
     returns)
