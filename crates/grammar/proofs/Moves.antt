@@ -1,13 +1,17 @@
 -- What a derivation does, move for move, told by rules and not by their numbers: so derivations under two grammars can be compared.
 use Prim.Native.Nat.{ℕ, suc}
-use mathlib.Core.Path.{_≡_, refl, ap, ap₂}
-use mathlib.Core.List.{List, [], _∷_, List·Memᴰ, List·Memᴰ·head, List·Memᴰ·tail}
+use native.Mathlib.Omega.{arith}
+use mathlib.Core.Path.{_≡_, refl, sym, _∙_, ap, ap₂}
+use mathlib.Core.List.{List, [], _∷_, _++_, List·Memᴰ, List·Memᴰ·head, List·Memᴰ·tail, head-eq-of-cons-eq, tail-eq-of-cons-eq, cons≢nil}
+use mathlib.Core.Option.{Option, none, some}
 use Rattle.grammar.specs.Lists.{Stands}
-use Rattle.grammar.specs.Rewriting.{Rule, Lexical, Spine, Symbol, Replaces, lexical, spine, Step, Steps, done, next, Derivation}
+use Rattle.grammar.specs.Rewriting.{Rule, Lexical, Spine, Symbol, word, nonterminal, Replaces, lexical, spine, Step, Steps, done, next, Derivation}
 use Rattle.grammar.specs.Rewriting
+use Rattle.grammar.specs.Plan.{rightOf}
+use Rattle.grammar.proofs.StandsLaws.{some-same}
+use Rattle.grammar.proofs.RightSide.{no-word, rule-right}
 
--- What one step does: the rule by which it replaces, and how many symbols stand before the one that it replaces. From the start on, the
--- moves of a derivation say each of its forms.
+-- What one step does: the rule by which it replaces, and how many symbols stand before the one that it replaces.
 pub record Move : Type 0 where
   pub place : ℕ
   pub rule : Rule
@@ -28,6 +32,33 @@ module _ {g : List Rule} where
   pub stands-rule : {p : ℕ} {X : Symbol} {r : List Symbol} (x : Replaces g p X r) → Stands g p (ruleBy x)
   stands-rule (lexical s) = s
   stands-rule (spine s t) = s
+
+-- From one form on the moves fix every form, whatever the grammars.
+abbrev rightAt : Rule → Symbol → Option (List Symbol)
+rightAt R (word w) = none
+rightAt R (nonterminal A s) = rightOf R A s
+
+right-at : {g : List Rule} {p : ℕ} (X : Symbol) {r : List Symbol} (x : Replaces g p X r) → rightAt (ruleBy x) X ≡ some r
+right-at {g} (word w) x = absurd (no-word g x)
+right-at {g} (nonterminal A s) x = rule-right g (ruleBy x) x (stands-rule x)
+
+same-step : {g g′ : List Rule} {f f′ h h′ : List Symbol} (s : Step g f h) (t : Step g′ f′ h′) → f ≡ f′ → moveOf s .place ≡ moveOf t .place
+    → moveOf s .rule ≡ moveOf t .rule → h ≡ h′
+same-step (Rewriting.Step.here {X = X} x) (Rewriting.Step.here {X = X′} y) e place rule =
+    let right = some-same (sym (right-at X x) ∙ (ap₂ rightAt rule (head-eq-of-cons-eq e) ∙ right-at X′ y)) in
+    ap₂ (λ (r f : List Symbol). r ++ f) right (tail-eq-of-cons-eq e)
+same-step (Rewriting.Step.here x) (Rewriting.Step.later t) e place rule = absurd (omega arith)
+same-step (Rewriting.Step.later s) (Rewriting.Step.here y) e place rule = absurd (omega arith)
+same-step (Rewriting.Step.later s) (Rewriting.Step.later t) e place rule =
+    ap₂ (λ (X : Symbol) (f : List Symbol). X ∷ f) (head-eq-of-cons-eq e) (same-step s t (tail-eq-of-cons-eq e) (omega arith) rule)
+
+pub same-moves : {g g′ : List Rule} {f f′ h h′ : List Symbol} (d : Steps g f h) (d′ : Steps g′ f′ h′) → f ≡ f′ → moves d ≡ moves d′ → h ≡ h′
+same-moves done done e l = e
+same-moves done (next t ts) e l = absurd (cons≢nil (sym l))
+same-moves (next s ss) done e l = absurd (cons≢nil l)
+same-moves (next s ss) (next t ts) e l =
+    let move = head-eq-of-cons-eq l in
+    same-moves ss ts (same-step s t e (ap (λ (m : Move). m .place) move) (ap (λ (m : Move). m .rule) move)) (tail-eq-of-cons-eq l)
 
 -- The words have a derivation under the grammar that consists of these moves.
 abbrev pub DerivesBy : List Rule → List ℕ → List Move → Type 0

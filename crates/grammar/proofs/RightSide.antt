@@ -52,6 +52,11 @@ module _ (g : List Rule) where
   replaces-right (lexical {A = A} x) = rw (stands-getElem x, eqb-self A, rightOf)
   replaces-right (spine {A = A} x a) = rw (stands-getElem x, eqb-self A, rightOf, acts-acted a)
 
+  -- The rule alone fixes the right side, wherever it stands.
+  pub rule-right : {p A : ℕ} {s : List ℕ} {r : List Symbol} (R : Rule) → Replaces g p (nonterminal A s) r → Stands g p R
+      → rightOf R A s ≡ some r
+  rule-right R x at = let e = replaces-right x in rw (stands-getElem at) at e
+
   word-replaces : {p A w : ℕ} (s : List ℕ) {r : List Symbol} → Stands g p (Lexical A w) → wordRight w s ≡ some r
       → Replaces g p (nonterminal A s) r
   word-replaces [] x h = rw (← some-same h) (lexical x)
