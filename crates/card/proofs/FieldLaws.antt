@@ -1,6 +1,6 @@
--- The six bytes of production m, as they were read: they fit where the production does, its names are among them, and where they fit each
--- name is small enough for a set.
-use Prim.Native.Nat.{ℕ, _+_, _<_, _≤_}
+-- The six bytes of production m, as they were read: they fit where the production does, they are its rule, its names are among them, and where
+-- they fit each name is small enough for a set.
+use Prim.Native.Nat.{ℕ, _<_, _≤_}
 use native.Mathlib.Omega.{arith}
 use mathlib.Core.Path.{_≡_, refl, sym, _∙_, ap}
 use mathlib.Core.Bool.{Bool, true, false, cond}
@@ -8,8 +8,7 @@ use mathlib.Core.List.{List}
 use lib.Dec.{eqb, leb, ltb}
 use borrow.Author.Tests.{ltb-true, eqb-true}
 use Rattle.grammar.specs.Names.{leftName, rightNames}
-use Rattle.layout.specs.Bytes.{byteAt}
-use Rattle.layout.specs.Card.{maxNonterminals, nonterminalCount, productionAt, production, kindFits, productionFits, wordProductionFits, pairFits, indexFits}
+use Rattle.layout.specs.Card.{maxNonterminals, nonterminalCount, productionAt, production, ruleOf, kindFits, productionFits, wordProductionFits, pairFits, indexFits}
 use Rattle.layout.proofs.TestLaws.{both}
 use Rattle.layout.proofs.RuleLaws.{three}
 use Rattle.layout.proofs.CardLaws.{left-byte, right-bytes}
@@ -21,18 +20,14 @@ module _ {card : List ℕ} (m : ℕ) {at : ℕ} {f : Fields} (there : at ≡ pro
   pub fields-same : fieldsFit card f ≡ productionFits card m
   fields-same = rw (read .kind, read .a, read .b, read .c, read .g, read .last, there)
 
+  pub fields-rule : ruleOf (f .kind) (f .a) (f .b) (f .c) (f .g) ≡ production card m
+  fields-rule = rw (read .kind, read .a, read .b, read .c, read .g, there)
+
   pub left-same : f .a ≡ leftName (production card m)
-  left-same =
-      let p = productionAt card m in
-      read .a ∙ (ap (λ (k : ℕ). byteAt card (k + 1)) there
-      ∙ sym (left-byte (byteAt card p) (byteAt card (p + 1)) (byteAt card (p + 2)) (byteAt card (p + 3)) (byteAt card (p + 4))))
+  left-same = sym (left-byte (f .kind) (f .a) (f .b) (f .c) (f .g)) ∙ ap leftName fields-rule
 
   pub right-same : rightBytes (f .kind) (f .b) (f .c) ≡ rightNames (production card m)
-  right-same =
-      let p = productionAt card m in
-      let same : rightBytes (f .kind) (f .b) (f .c) ≡ rightBytes (byteAt card p) (byteAt card (p + 2)) (byteAt card (p + 3))
-      = rw (read .kind, read .b, read .c, there) in
-      same ∙ sym (right-bytes (byteAt card p) (byteAt card (p + 1)) (byteAt card (p + 2)) (byteAt card (p + 3)) (byteAt card (p + 4)))
+  right-same = sym (right-bytes (f .kind) (f .a) (f .b) (f .c) (f .g)) ∙ ap rightNames fields-rule
 
 -- The limit of nonterminals is below the width of a set.
 module _ (card : List ℕ) (few : nonterminalCount card ≤ maxNonterminals) where

@@ -1,5 +1,4 @@
--- Laws of the parts of a card, over plain lists and numbers: a production's bytes at their place, and a word entry as the parts that the
--- code looks at.
+-- Laws of a word entry, over plain lists and numbers: the parts of it that the code looks at.
 use Prim.Native.Nat.{ℕ, zero, suc, _+_, _-_}
 use native.Mathlib.Omega.{arith}
 use native.Mathlib.Nat.{sub-zero, zero-sub, suc-sub-suc, add-sub-cancel-left}
@@ -11,14 +10,6 @@ use lib.ListN.{take, drop}
 use lib.Seq.{take-nil, drop-drop}
 use Rattle.layout.specs.Bytes.{byteAt, isLetter, allBytes}
 use Rattle.layout.specs.Card.{entryAt, entryFits, mostLetters, within}
-
--- A production's bytes, read at a place that is its place, and one by one.
-pub byte-from : (card : List ℕ) (at place k : ℕ) {b : ℕ} → at ≡ place → b ≡ byteAt card (at + k) → b ≡ byteAt card (place + k)
-byte-from card at place k e h = rw (← e) h
-
-pub five-same : {A : Type 0} (f : ℕ → ℕ → ℕ → ℕ → ℕ → A) {x : A} {kind kind′ a a′ b b′ c c′ g g′ : ℕ} → x ≡ f kind a b c g
-    → kind ≡ kind′ → a ≡ a′ → b ≡ b′ → c ≡ c′ → g ≡ g′ → x ≡ f kind′ a′ b′ c′ g′
-five-same f h h0 h1 h2 h3 h4 = rw (h0, h1, h2, h3, h4) at h
 
 -- A word entry, as the parts of the card that the code looks at.
 drop-take : (m n : ℕ) (l : List ℕ) → drop m (take n l) ≡ take (n - m) (drop m l)

@@ -7,14 +7,13 @@ use mathlib.Core.Path.{_≡_, refl, sym, _∙_, ap, ap₂, subst}
 use mathlib.Core.Bool.{Bool, true, false, _&&_, false≢true}
 use mathlib.Core.Logic.{_⊎_, inl, inr}
 use mathlib.Core.List.{List, [], _∷_, List·Memᴰ, List·Memᴰ·head, List·Memᴰ·eq-of-singleton}
-use lib.Dec.{eqb}
 use borrow.Author.Count.{below-more}
 use borrow.Author.Tests.{eqb-true, eq-eqb}
 use Rattle.bits.specs.Bits.{bitOf, withNumber, withNumbers, isPart}
 use Rattle.bits.proofs.BitLaws.{bitOf-zero}
 use Rattle.bits.proofs.BitSets.{numbers-kept, numbers-there, numbers-from, part-each, part-lacks, bit-zero-unless}
 use Rattle.grammar.specs.Rewriting.{Rule}
-use Rattle.grammar.specs.Names.{leftName, rightNames, onLeft, liveRule}
+use Rattle.grammar.specs.Names.{leftName, rightNames, isLeft, onLeft, liveRule}
 use Rattle.grammar.proofs.ListLaws.{in-stands, stands-in, of-all, not-all-of, some-of, of-some}
 use Rattle.layout.specs.Card.{production, productionAt, productionCount, grammarOf, productionFits, productionsFit, namesLive}
 use Rattle.layout.proofs.TestLaws.{all-below, some-below}
@@ -75,14 +74,14 @@ module _ (card : List ℕ) where
 
   left-there : (q : ℕ) → onLeft g q ≡ true → bitOf q (leftsBelow card count) ≡ 1
   left-there q e =
-      let (r, i, t) = of-some (λ x. eqb (leftName x) q) g e in
+      let (r, i, t) = of-some (isLeft q) g e in
       let (k, h, s) = in-there i in
       subst (λ (x : ℕ). bitOf x (leftsBelow card count) ≡ 1) (sym (ap leftName s) ∙ eqb-true (leftName r) q t) (lefts-there count k h)
 
   left-from : (q : ℕ) → bitOf q (leftsBelow card count) ≡ 1 → onLeft g q ≡ true
   left-from q o =
       let (k, h, e) = lefts-from count q o in
-      some-of (λ x. eqb (leftName x) q) g (there-in k h) (eq-eqb (leftName (production card k)) q (sym e))
+      some-of (isLeft q) g (there-in k h) (eq-eqb (leftName (production card k)) q (sym e))
 
   pub part-decides : isPart (rightsBelow card count) (leftsBelow card count) ≡ namesLive card
   part-decides = go (namesLive card) refl

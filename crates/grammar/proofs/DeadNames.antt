@@ -4,12 +4,11 @@ use Prim.Native.Nat.{ℕ, zero, suc}
 use mathlib.Core.Path.{_≡_, refl, sym, _∙_, ap}
 use mathlib.Core.Bool.{Bool, true, false, false≢true}
 use mathlib.Core.List.{List, [], _∷_, _++_, map, List·Memᴰ, List·Memᴰ·head, List·Memᴰ·tail}
-use lib.Dec.{eqb}
 use Rattle.grammar.specs.Lists.{Stands, here, there}
 use Rattle.grammar.specs.Rewriting.{Rule, Symbol, word, nonterminal, sides, Replaces, lexical, spine, Step, Steps, done, next, Derivation}
 use Rattle.grammar.specs.Rewriting
-use Rattle.grammar.specs.Names.{leftName, rightNames, onLeft, liveRule}
-use Rattle.grammar.specs.Plan.{PlanStep, productionIn, LeftmostDerivation, LeftmostStep, first, pastWord, LeftmostSteps, finish, proceed}
+use Rattle.grammar.specs.Names.{rightNames, isLeft, onLeft, liveRule}
+use Rattle.grammar.specs.Plan.{PlanStep, productionIn, LeftmostDerivation, LeftmostStep, first, pastWord, LeftmostSteps, proceed}
 use Rattle.grammar.proofs.ListLaws.{eqb-self, stands-in, some-of, not-all-of}
 use Rattle.grammar.proofs.StandsLaws.{stands-unique}
 use Rattle.grammar.proofs.Moves.{Move, ruleBy, moveOf, moves, stands-rule, DerivesBy, carry}
@@ -68,12 +67,9 @@ module _ {g : List Rule} where
 
 module _ (g : List Rule) where
   -- What is replaced stands on the left.
-  on-left : {p : ℕ} {r : Rule} (X : ℕ) → Stands g p r → leftName r ≡ X → onLeft g X ≡ true
-  on-left X s e = some-of (λ r. eqb (leftName r) X) g (stands-in s) (rw e (eqb-self X))
-
   replaced-on-left : {p X : ℕ} {s : List ℕ} {r : List Symbol} → Replaces g p (nonterminal X s) r → onLeft g X ≡ true
-  replaced-on-left {X = X} (lexical s) = on-left X s refl
-  replaced-on-left {X = X} (spine s t) = on-left X s refl
+  replaced-on-left {X = X} (lexical s) = some-of (isLeft X) g (stands-in s) (eqb-self X)
+  replaced-on-left {X = X} (spine s t) = some-of (isLeft X) g (stands-in s) (eqb-self X)
 
   -- So a name that stands on no left stays, and no words come of it.
   module _ (X : ℕ) (dead : onLeft g X ≡ false) where

@@ -47,12 +47,8 @@ pub only-in : {A : Type 0} (b : Bool) (x : A) → b ≡ true → List·Memᴰ x 
 only-in true x e = List·Memᴰ·head refl
 only-in false x e = absurd (false≢true e)
 
--- A test of every element holds where it holds of each, and not where it fails for one; a test of some one the other way.
+-- A test of every element: one that fails is found, and none fails where it holds. A test of some one, both ways.
 module _ {A : Type 0} (test : A → Bool) where
-  pub all-of : (l : List A) → ((x : A) → List·Memᴰ x l → test x ≡ true) → allOf test l ≡ true
-  all-of [] h = refl
-  all-of (x ∷ l) h = rw (h x (List·Memᴰ·head refl)) (all-of l λ y m. h y (List·Memᴰ·tail m))
-
   pub not-all-of : (l : List A) → allOf test l ≡ false → (x : A) × List·Memᴰ x l × (test x ≡ false)
   not-all-of [] e = absurd (false≢true (sym e))
   not-all-of (x ∷ l) e = go (test x) refl e (not-all-of l)

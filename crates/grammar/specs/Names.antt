@@ -16,9 +16,12 @@ abbrev pub rightNames : Rule → List ℕ
 rightNames (Lexical A w) = []
 rightNames (Spine A a before D after) = before ++ (D ∷ after)
 
--- Does X stand on the left of some rule?
+-- Does X stand on the left of the rule; and of some rule?
+abbrev pub isLeft : ℕ → Rule → Bool
+isLeft X r = eqb (leftName r) X
+
 abbrev pub onLeft : List Rule → ℕ → Bool
-onLeft g X = someOf (λ r. eqb (leftName r) X) g
+onLeft g X = someOf (isLeft X) g
 
 -- Has the rule, among the rules g, no dead name on its right; and has no rule of g one?
 abbrev pub liveRule : List Rule → Rule → Bool

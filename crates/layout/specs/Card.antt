@@ -1,7 +1,7 @@
 -- Document 01, "The card", and the nursery's refusals 11 to 14 and 16 in "Refusals by who can cause them"; document 02, Paper 4, adds 42.
 -- (15 no longer occurs: document 02, Paper 2, lets entries be spelled alike.)
 use Prim.Native.Nat.{ℕ, zero, suc, _+_, _*_}
-use mathlib.Core.Bool.{Bool, true, false, cond, _&&_, _||_}
+use mathlib.Core.Bool.{Bool, true, false, cond, _&&_}
 use mathlib.Core.List.{List, [], _∷_, map}
 use lib.Dec.{eqb, leb, ltb}
 use lib.ListN.{length, take, drop}

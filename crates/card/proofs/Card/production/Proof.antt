@@ -1,15 +1,14 @@
 -- `Card::production`: an accepted card has room for each production of its count, at its place in the table.
 -- So the five bytes read there are the production's, and the table of kinds has its rule for them.
 use native.Mathlib.Omega.{arith}
-use mathlib.Core.Path.{_≡_, refl, ap, _∙_}
+use mathlib.Core.Path.{_≡_, ap, _∙_}
 use borrow.Author.Needs.{needs}
 use denote.Ref.{now}
 use Prim.Native.Nat.{_+_, _*_}
-use Rattle.layout.specs.Bytes.{byteAt}
-use Rattle.layout.specs.Card.{productionAt, productionLength, ruleOf}
+use Rattle.layout.specs.Card.{productionAt, productionLength}
 use Rattle.layout.proofs.ViewLaws.{header-most}
 use Rattle.layout.proofs.Accepting.{accepted-counts, production-inside}
-use Rattle.card.proofs.Laws.{byte-from, five-same}
+use Rattle.card.proofs.FieldLaws.{fields-rule}
 use Rattle.card.proofs.Card.production.Statement.{statement}
 use Rattle.card.proofs.Card.production.Tie as tie
 
@@ -39,13 +38,7 @@ production-of-requires c κs = search needs
 returns : tie.Need-returns
 returns c =
     let start = c .before .before .before .before in
-    let card = now (start .args .card) in
-    let at = c .before .before .production-at .result in
-    let there = productionAt card (start .args .m) in
-    let e = place (c .before .before) in
-    let f = c .before .fields-at .ensures in
-    five-same ruleOf (c .production-of .ensures) (f .kind ∙ ap (byteAt card) e) (byte-from card at there 1 e (f .a))
-    (byte-from card at there 2 e (f .b)) (byte-from card at there 3 e (f .c)) (byte-from card at there 4 e (f .g))
+    c .production-of .ensures ∙ fields-rule (start .args .m) (place (c .before .before)) (c .before .fields-at .ensures)
 
 pub production-spec : {M : Type 1} → statement M
 production-spec =
