@@ -25,11 +25,11 @@ numbers l₀ l₁ l₂ u = simp (map-append, append-assoc)
 
 module _ (g : List Rule) where
   -- A leftmost rewriting is a rewriting.
-  leftmost-is-step : {p : ℕ} {f f′ : List Symbol} → LeftmostStep g p f f′ → Step g f f′
+  abbrev pub leftmost-is-step : {p : ℕ} {f f′ : List Symbol} → LeftmostStep g p f f′ → Step g f f′
   leftmost-is-step (first r) = here r
   leftmost-is-step (pastWord s) = later (leftmost-is-step s)
 
-  pub leftmost-is-steps : {f f′ : List Symbol} {ps : List ℕ} → LeftmostSteps g f ps f′ → Steps g f f′
+  abbrev pub leftmost-is-steps : {f f′ : List Symbol} {ps : List ℕ} → LeftmostSteps g f ps f′ → Steps g f f′
   leftmost-is-steps finish = done
   leftmost-is-steps (proceed s ss) = next (leftmost-is-step s) (leftmost-is-steps ss)
 

@@ -22,3 +22,9 @@ pub mod PairsCount
 pub mod EveryPlan
 pub mod Moves
 pub mod DeadNames
+pub mod NotAfterLaws
+pub mod FirstPlanLaws
+pub mod WaysCompared
+pub mod WaysPlans
+pub mod FirstPlanExamples
+pub mod Trees

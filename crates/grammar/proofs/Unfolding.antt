@@ -3,17 +3,15 @@
 use Prim.Native.Nat.{ℕ, zero, suc, _-_, _≤_, _<_}
 use native.Mathlib.Nat.{le-trans}
 use native.Mathlib.Omega.{arith}
-use mathlib.Core.Path.{_≡_, refl, subst}
+use mathlib.Core.Path.{_≡_, subst}
 use mathlib.Core.List.{List, [], _∷_, _++_, append-nil}
-use lib.ListN.{getElem?}
 use Rattle.grammar.specs.Lists.{Stands}
-use Rattle.grammar.specs.Rewriting.{Rule, Action, Symbol, nonterminal, Replaces, lexical, spine, Acts, takes, keeps, gives}
-use Rattle.grammar.specs.Items.{Foot, bare, foot, Derived, wordStep, takeStep, keepStep, giveStep, Sides, noSide, nextSide}
+use Rattle.grammar.specs.Rewriting.{Rule, Action, Symbol, nonterminal, Replaces, spine, Acts, takes, keeps, gives}
+use Rattle.grammar.specs.Items.{Foot, foot, Derived, wordStep, takeStep, keepStep, giveStep, Sides, noSide, nextSide}
 use Rattle.grammar.specs.ItemList.{Item, item}
-use Rattle.grammar.specs.Plan.{PlanStep, planStep, firstOf, othersOf, Yields, nothing, reads, replaces, LeftmostDerivation}
+use Rattle.grammar.specs.Plan.{PlanStep, planStep, firstOf, othersOf, Yields, nothing, replaces}
 use Rattle.grammar.specs.Chart.{Record, recorded, itemOf, Earlier, earlier, Results, taken, kept, given}
-use Rattle.grammar.specs.Chart.{Justified, byWord, sideFirst, sideLast, onward, Pends, nothingPends, awaits, productionOf, unfoldRule, unfolds}
-use Rattle.grammar.proofs.StandsLaws.{stands-getElem}
+use Rattle.grammar.specs.Chart.{Justified, byWord, sideFirst, sideLast, onward, Pends, awaits}
 
 -- The parts of an item.
 abbrev nameOf : Item → ℕ
@@ -29,16 +27,16 @@ abbrev itemFoot : Item → Foot
 itemFoot (item A i j φ) = φ
 
 -- `Goes c A i j x s pending`: at position x stands a record of A over i to j, and pending records fit its foot and the stack s.
-data Goes (c : List Record) (A i j x : ℕ) (s pending : List ℕ) : Type 0 where
+pub data Goes (c : List Record) (A i j x : ℕ) (s pending : List ℕ) : Type 0 where
   goes : {φ : Foot} {p y z u : ℕ} → Stands c x (recorded (item A i j φ) p y z u) → Pends c φ s pending → Goes c A i j x s pending
 
 -- After a step the spine goes on with such a record of the dependent.
-record Onwards (c : List Record) (a : Action) (D k j y z : ℕ) (s pending : List ℕ) : Type 0 where
-  stack : List ℕ
-  acts : Acts a s stack
-  rest : Goes c D k j (onward a y z pending .position) stack (onward a y z pending .pending)
+pub record Onwards (c : List Record) (a : Action) (D k j y z : ℕ) (s pending : List ℕ) : Type 0 where
+  pub stack : List ℕ
+  pub acts : Acts a s stack
+  pub rest : Goes c D k j (onward a y z pending .position) stack (onward a y z pending .pending)
 
-onwards : {c : List Record} {m D k j y z : ℕ} {a : Action} {ψ φ : Foot} {s pending : List ℕ} → Results c m a D k j ψ z φ
+pub onwards : {c : List Record} {m D k j y z : ℕ} {a : Action} {ψ φ : Foot} {s pending : List ℕ} → Results c m a D k j ψ z φ
     → Earlier c m y (item D k j ψ) → Pends c φ s pending → Onwards c a D k j y z s pending
 onwards taken y (awaits r ps) = record { stack = _; acts = takes; rest = goes r ps }
 onwards kept (earlier l y) ps = record { stack = _; acts = keeps; rest = goes y ps }
@@ -56,7 +54,7 @@ mutual
   sides-long noSide = omega arith
   sides-long (nextSide d l) = let x = derived-longer d in let y = sides-long l in omega arith
 
-earlier-below : {c : List Record} {m n x : ℕ} {it : Item} → m ≤ n → Earlier c m x it → Earlier c n x it
+pub earlier-below : {c : List Record} {m n x : ℕ} {it : Item} → m ≤ n → Earlier c m x it → Earlier c n x it
 earlier-below h (earlier l s) = earlier (le-trans l h) s
 
 module _ (g : List Rule) (at : ℕ → ℕ → Type 0) where
@@ -64,12 +62,12 @@ module _ (g : List Rule) (at : ℕ → ℕ → Type 0) where
   DerivedItem it = Derived g at (nameOf it) (startOf it) (endOf it) (itemFoot it)
 
   -- A step whose nonterminal stands alone.
-  step-yields : {p i k j : ℕ} {X : Symbol} {r : List Symbol} {ps qs : List PlanStep} → Replaces g p X r → Yields g at (firstOf r) i k ps
+  pub step-yields : {p i k j : ℕ} {X : Symbol} {r : List Symbol} {ps qs : List PlanStep} → Replaces g p X r → Yields g at (firstOf r) i k ps
       → Yields g at (othersOf r) k j qs → Yields g at (X ∷ []) i j (planStep p i k j ∷ (ps ++ qs))
   step-yields {ps = ps} {qs = qs} r x y = rw (← append-nil (ps ++ qs)) (replaces r x y nothing)
 
   -- A record is derived if its antecedents are.
-  derived-step : {c : List Record} {m : ℕ} {e : Record} → Justified g at c m e
+  pub derived-step : {c : List Record} {m : ℕ} {e : Record} → Justified g at c m e
       → ((x : ℕ) (it : Item) → Earlier c m x it → DerivedItem it) → DerivedItem (itemOf e)
   derived-step (byWord s a) from = wordStep s a
   derived-step (sideFirst s x y taken) from = takeStep s (nextSide (from _ _ x) noSide) (from _ _ y) noSide
@@ -81,7 +79,7 @@ module _ (g : List Rule) (at : ℕ → ℕ → Type 0) where
 
 module _ (g : List Rule) (at : ℕ → ℕ → Type 0) (c : List Record)
     (justified : (m : ℕ) (e : Record) → Stands c m e → Justified g at c m e) where
-  derived-below : (bound : ℕ) (x : ℕ) (it : Item) → Earlier c bound x it → DerivedItem g at it
+  pub derived-below : (bound : ℕ) (x : ℕ) (it : Item) → Earlier c bound x it → DerivedItem g at it
   derived-below zero x it (earlier l s) = absurd (omega arith)
   derived-below (suc bound) x it (earlier l s) =
       derived-step g at (justified x _ s) (λ y it′ v. derived-below bound y it′ (earlier-below (omega arith) v))
@@ -91,41 +89,3 @@ module _ (g : List Rule) (at : ℕ → ℕ → Type 0) (c : List Record)
 
   pub justified-longer : {m A i j : ℕ} {φ : Foot} {e : Record} → Stands c m e → itemOf e ≡ item A i j φ → i < j
   justified-longer s h = derived-longer (justified-derived s h)
-
-  goes-longer : {A i j x : ℕ} {s pending : List ℕ} → Goes c A i j x s pending → i < j
-  goes-longer (goes r ps) = justified-longer r refl
-
-  -- `Unfolded depth go`: go gives the plan of whatever goes on over at most `depth` words.
-  abbrev Unfolded : ℕ → (ℕ → List ℕ → List PlanStep) → Type 0
-  Unfolded depth go = (A i j x : ℕ) (s pending : List ℕ) → Goes c A i j x s pending → j - i ≤ depth
-      → Yields g at (nonterminal A s ∷ []) i j (go x pending)
-
-  -- Then it gives the plan of a record that is one word longer.
-  rule-yields : {m depth : ℕ} {go : ℕ → List ℕ → List PlanStep} {e : Record} {s pending : List ℕ} → Justified g at c m e
-      → Pends c (itemFoot (itemOf e)) s pending → endOf (itemOf e) - startOf (itemOf e) ≤ suc depth → Unfolded depth go
-      → Yields g at (nonterminal (nameOf (itemOf e)) s ∷ []) (startOf (itemOf e)) (endOf (itemOf e))
-      (unfoldRule c go (getElem? g (productionOf e)) e pending)
-  rule-yields (byWord r a) nothingPends h below = rw (stands-getElem r) (step-yields g at (lexical r) (reads a nothing) nothing)
-  rule-yields (sideFirst r (earlier l x) y o) ps h below =
-      let w = onwards o y ps in let u = justified-longer x refl in let v = goes-longer (w .rest) in
-      rw (stands-getElem r, stands-getElem x)
-      (step-yields g at (spine r (w .acts)) (below _ _ _ _ _ _ (goes x nothingPends) (omega arith)) (below _ _ _ _ _ _ (w .rest) (omega arith)))
-  rule-yields (sideLast r y (earlier l x) o) ps h below =
-      let w = onwards o y ps in let u = justified-longer x refl in let v = goes-longer (w .rest) in
-      rw (stands-getElem r, stands-getElem x)
-      (step-yields g at (spine r (w .acts)) (below _ _ _ _ _ _ (w .rest) (omega arith)) (below _ _ _ _ _ _ (goes x nothingPends) (omega arith)))
-
-  goes-yields : (depth : ℕ) → Unfolded depth (λ x ys. unfolds g c depth x ys)
-  goes-yields zero A i j m s pending v h = let l = goes-longer v in absurd (omega arith)
-  goes-yields (suc depth) A i j m s pending (goes r ps) h =
-      rw (stands-getElem r) (rule-yields (justified _ _ r) ps h (goes-yields depth))
-
-  pub unfolds-yields : (depth m : ℕ) {A i j : ℕ} {φ : Foot} {e : Record} {s pending : List ℕ} → Stands c m e
-      → itemOf e ≡ item A i j φ → Pends c φ s pending → j - i ≤ depth
-      → Yields g at (nonterminal A s ∷ []) i j (unfolds g c depth m pending)
-  unfolds-yields depth m {e = recorded it p x y z} r t ps h =
-      goes-yields depth _ _ _ m _ _ (goes (subst (λ (it′ : Item). Stands c m (recorded it′ p x y z)) t r) ps) h
-
-  pub chart-plan : {n m : ℕ} {e : Record} → Stands c m e → itemOf e ≡ item 0 0 n bare
-      → LeftmostDerivation g at n (unfolds g c n m [])
-  chart-plan {n} {m} r t = unfolds-yields n m r t nothingPends (omega arith)

@@ -1,14 +1,11 @@
 -- Document 01, "The chart" (records) and "The plan" (unfolding): what a chart is, and the plan that is read off it.
-use Prim.Native.Nat.{ℕ, zero, suc, _<_}
+use Prim.Native.Nat.{ℕ, suc, _<_}
 use mathlib.Core.Path.{_≡_}
-use mathlib.Core.List.{List, [], _∷_, _++_, map}
-use mathlib.Core.Option.{Option, none, some}
-use lib.ListN.{getElem?}
+use mathlib.Core.List.{List, [], _∷_, map}
 use Rattle.grammar.specs.Lists.{Stands, Distinct}
 use Rattle.grammar.specs.Rewriting.{Rule, Lexical, Spine, Action, Take, Keep, Give}
 use Rattle.grammar.specs.Items.{Foot, bare, foot, Derived}
 use Rattle.grammar.specs.ItemList.{Item, item}
-use Rattle.grammar.specs.Plan.{PlanStep, planStep}
 
 -- One record: an item, the production of the step that derived it, and the positions of that step's antecedents.
 pub data Record : Type 0 where
@@ -69,32 +66,6 @@ pub data Pends (c : List Record) : Foot → List ℕ → List ℕ → Type 0 whe
   awaits : {γ B p q x r y z u : ℕ} {φ : Foot} {s pending : List ℕ} → Stands c x (recorded (item B p q φ) r y z u)
       → Pends c φ s pending → Pends c (foot γ B p q) (γ ∷ s) (x ∷ pending)
 
--- The stretch of the item at a position.
-abbrev pub fromOf : Option Record → ℕ
-fromOf none = 0
-fromOf (some (recorded (item A i j φ) p x y z)) = i
-
-abbrev pub toOf : Option Record → ℕ
-toOf none = 0
-toOf (some (recorded (item A i j φ) p x y z)) = j
-
--- The steps for a record by its rule, where `go` unfolds what stands at a position with what is pending. Leftmost first.
-abbrev pub unfoldRule : List Record → (ℕ → List ℕ → List PlanStep) → Option Rule → Record → List ℕ → List PlanStep
-unfoldRule c go none e pending = []
-unfoldRule c go (some (Lexical A′ w)) (recorded (item A i j φ) p x y z) pending = planStep p i j j ∷ []
-unfoldRule c go (some (Spine A′ a (B ∷ before) D after)) (recorded (item A i j φ) p x y z) pending =
-    planStep p i (toOf (getElem? c x)) j ∷ (go x [] ++ go (onward a y z pending .position) (onward a y z pending .pending))
-unfoldRule c go (some (Spine A′ a [] D after)) (recorded (item A i j φ) p x y z) pending =
-    planStep p i (fromOf (getElem? c x)) j ∷ (go (onward a y z pending .position) (onward a y z pending .pending) ++ go x [])
-
+-- The production of a record.
 abbrev pub productionOf : Record → ℕ
 productionOf (recorded it p x y z) = p
-
-abbrev pub unfoldRecord : List Rule → List Record → (ℕ → List ℕ → List PlanStep) → Option Record → List ℕ → List PlanStep
-unfoldRecord g c go none pending = []
-unfoldRecord g c go (some e) pending = unfoldRule c go (getElem? g (productionOf e)) e pending
-
--- The plan of the record at position m; spans get shorter at each call, so their length bounds the depth.
-abbrev pub unfolds : List Rule → List Record → ℕ → ℕ → List ℕ → List PlanStep
-unfolds g c zero m pending = []
-unfolds g c (suc depth) m pending = unfoldRecord g c (λ x ys. unfolds g c depth x ys) (getElem? c m) pending

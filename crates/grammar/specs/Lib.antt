@@ -5,6 +5,9 @@ pub mod Input
 pub mod Items
 pub mod ItemList
 pub mod Plan
+pub mod FirstPlan
 pub mod Pairs
 pub mod Matching
 pub mod Chart
+pub mod Ways
+pub mod Trees

@@ -36,3 +36,10 @@ allOf test (x ∷ l) = test x && allOf test l
 abbrev pub someOf : {A : Type 0} → (A → Bool) → List A → Bool
 someOf test [] = false
 someOf test (x ∷ l) = test x || someOf test l
+
+-- Two lists compared from the left: the first place at which they differ decides, and there the first list's element is before the other's.
+-- Or they nowhere differ. Lists of which one ends within the other are not in order.
+pub data NotAfter {A : Type 0} (before : A → A → Type 0) : List A → List A → Type 0 where
+  ended : NotAfter before [] []
+  sooner : {x y : A} {l m : List A} → before x y → NotAfter before (x ∷ l) (y ∷ m)
+  agreed : {x : A} {l m : List A} → NotAfter before l m → NotAfter before (x ∷ l) (x ∷ m)
