@@ -10,8 +10,7 @@ use lib.ListN.{length, getElem?}
 use Rattle.grammar.specs.Lists.{concatMap}
 use Rattle.grammar.specs.Rewriting.{Rule, Action, Take, Keep, Give}
 use Rattle.grammar.specs.Chart.{Record}
-use Rattle.chart_model.specs.Build.{flatUp, places, byAction, byRule, dependentFirst, turned, ruleAt, acrossSplits, byRuleOver, byProduction, candidates}
-use Rattle.chart_model.proofs.BuildLaws.{turned-within}
+use Rattle.chart_model.specs.Build.{flatUp, places, byAction, byRule, ruleAt, acrossSplits, byRuleOver, byProduction, candidates}
 
 pub concatMap-none : {A B : Type 0} (f : A → List B) (l : List A) → ((x : A) → f x ≡ []) → concatMap f l ≡ []
 concatMap-none f [] h = refl
@@ -39,9 +38,7 @@ action-none c (Give γ) D k m A i j p x e = rw e
 -- A production adds nothing over a span where it has nothing at any split; and a cell has no candidates where no production adds any.
 pub splits-none : (c : List Record) (A i j p : ℕ) (r : Rule) → ((k : ℕ) → i < k → k < j → byRule c A i k j p r ≡ [])
     → acrossSplits c A i j p r ≡ []
-splits-none c A i j p r h =
-    flatUp-none (ruleAt c A i j p r) (suc i) (j - suc i)
-    (λ m a b. let (x, y) = turned-within (dependentFirst r) i j m a (omega arith) in h (turned (dependentFirst r) (i + j) m) x y)
+splits-none c A i j p r h = flatUp-none (ruleAt c A i j p r) (suc i) (j - suc i) (λ k a b. h k a (omega arith))
 
 pub candidates-none : (g : List Rule) (at : ℕ → ℕ → Bool) (c : List Record) (A i len : ℕ)
     → ((p : ℕ) (r : Rule) → getElem? g p ≡ some r → byRuleOver at c A i len p r ≡ []) → candidates g at c A i len ≡ []

@@ -1,13 +1,13 @@
 -- Laws of the functions that the model is made of: what is in a list made place by place, which positions pass a test, what a fold
 -- keeps, what adding does. Each by induction on the number of places or on the list, as the function itself goes.
-use Prim.Native.Nat.{ℕ, zero, suc, _+_, _-_, _≤_, _<_}
+use Prim.Native.Nat.{ℕ, zero, suc, _+_, _≤_, _<_}
 use native.Mathlib.Numerals.{add-one}
 use native.Mathlib.Nat.{zero-add, add-zero, suc-add, add-suc}
 use native.Mathlib.Decide.{ℕ-discrete}
 use native.Mathlib.Omega.{arith}
 use mathlib.Core.Path.{_≡_, refl, sym, _∙_, ap, subst}
 use mathlib.Core.Logic.{_⊎_, inl, inr}
-use mathlib.Core.Bool.{Bool, true, false, false≢true}
+use mathlib.Core.Bool.{Bool, true, false≢true}
 use mathlib.Core.List.{List, [], _∷_, _++_, map, append-assoc, List·Memᴰ, List·Memᴰ·head, List·Memᴰ·tail, List·Memᴰ·not-nil, List·Memᴰ·append-cases, List·Memᴰ·eq-of-singleton, Memᴰ·append-left, Memᴰ·append-right, Memᴰ·cast}
 use mathlib.Core.Option.{Option, none, some}
 use lib.Dec.{ltb}
@@ -20,7 +20,7 @@ use Rattle.grammar.specs.Chart.{Record, itemOf}
 use Rattle.grammar.proofs.ListLaws.{in-only, only-in, in-map, map-in}
 use Rattle.grammar.proofs.StandsLaws.{none-some, some-same}
 use Rattle.grammar.proofs.ItemTests.{choice, among-true, among-mem}
-use Rattle.chart_model.specs.Build.{flatUp, foldUp, placesFrom, turned, added, addOne, addEach}
+use Rattle.chart_model.specs.Build.{flatUp, foldUp, placesFrom, added, addOne, addEach}
 
 -- One place more.
 pub flatUp-more : {A : Type 0} (f : ℕ → List A) (from m : ℕ) → flatUp f from (m + 1) ≡ flatUp f from m ++ f (from + m)
@@ -45,15 +45,6 @@ flatUp-in {x = x} f from (suc m) k a b h = elim (ℕ-discrete k (from + m)) [
   | yes e ↦ Memᴰ·append-right (flatUp f from m) (subst (λ (i : ℕ). List·Memᴰ x (f i)) e h)
   | no d ↦ Memᴰ·append-left (f (from + m)) (flatUp-in f from m k a (omega arith) h)
 ]
-
--- The split of a turn lies within i to j, and is that of one turn only.
-pub turned-within : (back : Bool) (i j m : ℕ) → i < m → m < j → (i < turned back (i + j) m) × (turned back (i + j) m < j)
-turned-within true i j m a b = (omega arith, omega arith)
-turned-within false i j m a b = (a, b)
-
-pub turned-twice : (back : Bool) (sum k : ℕ) → k ≤ sum → turned back sum (turned back sum k) ≡ k
-turned-twice true sum k h = omega arith
-turned-twice false sum k h = refl
 
 -- What each turn keeps holds at the end.
 pub foldUp-keeps : {S : Type 0} (I : ℕ → S → Type 0) (f : ℕ → S → S) (m : ℕ) {s : S}

@@ -1,34 +1,41 @@
--- A candidate is justified, since what it names stands in the chart at the positions that the model looks up. And a cell's candidates
--- leave out none of its derived items, if the chart has every derived item of fewer words within its span: all antecedents are such.
+-- A candidate is a step, since what it names stands in the chart at the positions that the model looks up; and each step to an item of the
+-- cell has a candidate of its item and key. So the candidates leave out no derived item, if the chart has those of fewer words within.
 use Prim.Native.Nat.{ℕ, zero, suc, _+_, _-_, _≤_, _<_}
 use native.Mathlib.Omega.{arith}
 use mathlib.Core.Path.{_≡_, refl, sym, _∙_, ap, subst}
 use mathlib.Core.Bool.{Bool, true, _&&_, false≢true, and-eq-true-iff}
-use mathlib.Core.List.{List, [], _∷_, map, List·Memᴰ, List·Memᴰ·head, List·Memᴰ·tail, List·Memᴰ·not-nil, List·Memᴰ·eq-of-singleton}
+use mathlib.Core.List.{List, [], _∷_, List·Memᴰ, List·Memᴰ·head, List·Memᴰ·tail, List·Memᴰ·not-nil, List·Memᴰ·eq-of-singleton, Memᴰ·cast}
 use mathlib.Core.Option.{some}
 use lib.Dec.{eqb}
 use lib.ListN.{length, getElem?}
 use borrow.Author.Tests.{eqb-true}
-use Rattle.grammar.specs.Lists.{Stands}
+use Rattle.grammar.specs.Lists.{Stands, NotAfter}
 use Rattle.grammar.specs.Rewriting.{Rule, Lexical, Spine, Action, Take, Keep, Give, OneSide, isFirst, isLast, OneSided}
 use Rattle.grammar.specs.Input.{Holds, Below}
 use Rattle.grammar.specs.Items.{Foot, bare, foot, Derived, wordStep, takeStep, keepStep, giveStep, Sides, noSide, nextSide}
 use Rattle.grammar.specs.ItemList.{Item, item, isBare}
-use Rattle.grammar.specs.Chart.{Record, recorded, itemOf, nowhere, Earlier, earlier, Results, taken, kept, given, Justified, sideFirst, sideLast}
-use Rattle.grammar.specs.Chart
-use Rattle.grammar.proofs.ListLaws.{eqb-self, in-concatMap, concatMap-in, in-only, in-map, in-stands}
+use Rattle.grammar.specs.Chart.{Record, recorded, itemOf, nowhere, Earlier, earlier, Results, taken, kept, given, Justified}
+use Rattle.grammar.specs.Ways.{compared, Moves, sideFirst, sideLast}
+use Rattle.grammar.specs.Ways
+use Rattle.grammar.proofs.ListLaws.{eqb-self, in-concatMap, concatMap-in, in-only, in-map, map-in, in-stands}
 use Rattle.grammar.proofs.StandsLaws.{stands-getElem, getElem-stands, stands-length}
 use Rattle.grammar.proofs.Bounds.{derived-bounds}
 use Rattle.grammar.proofs.Unfolding.{derived-longer}
 use Rattle.grammar.proofs.ItemTests.{in-choice, choice-in}
-use Rattle.grammar.proofs.ItemSteps.{Makes}
-use Rattle.grammar.proofs.ItemSteps
-use Rattle.chart_model.specs.Build.{isOf, isBareOf, places, barePlaces, footIn, footAt, takenFrom, keptFrom, continued, givenFoot, givenFrom, byAction, byRule, dependentFirst, turned, ruleAt, acrossSplits, byWord, byRuleOver, byProduction, candidates}
-use Rattle.chart_model.proofs.BuildLaws.{Has, in-flatUp, flatUp-in, turned-within, turned-twice, in-placesAll, placesAll-in, in-option, option-in, map-wider}
+use Rattle.grammar.proofs.WaysPlans.{justified-of-moves}
+use Rattle.chart_model.specs.Build.{isOf, isBareOf, places, barePlaces, footIn, footAt, takenFrom, keptFrom, continued, givenFoot, givenFrom, byAction, byRule, ruleAt, byWord, byRuleOver, byProduction, candidates}
+use Rattle.chart_model.proofs.BuildLaws.{Has, in-flatUp, flatUp-in, in-placesAll, placesAll-in, in-option, option-in}
+use Rattle.chart_model.proofs.Keys.{positions, keyOf, InOrder}
 
 -- A record before the end.
 stands-earlier : {c : List Record} {x : ℕ} (e : Record) → Stands c x e → Earlier c (length c) x (itemOf e)
 stands-earlier (recorded it p y z u) s = earlier (stands-length s) s
+
+has-earlier : {c : List Record} {it : Item} → Has c it → (x : ℕ) × Earlier c (length c) x it
+has-earlier {c} h =
+    let (e, m, q) = in-map itemOf c h in
+    let (x, s) = in-stands m in
+    (x, subst (Earlier c (length c) x) (sym q) (stands-earlier e s))
 
 -- The tests for a cell's records.
 isOf-item : (A i j : ℕ) (e : Record) → isOf A i j e ≡ true → itemOf e ≡ item A i j (footIn (some e))
@@ -36,11 +43,6 @@ isOf-item A i j (recorded (item A′ i′ j′ φ) p x y z) t =
     let (e₁, f₁) = and-eq-true-iff (eqb A′ A) _ .0 t in
     let (e₂, e₃) = and-eq-true-iff (eqb i′ i) _ .0 f₁ in
     cc (eqb-true A′ A e₁, eqb-true i′ i e₂, eqb-true j′ j e₃)
-
-item-isOf : (A i j : ℕ) (φ : Foot) (e : Record) → item A i j φ ≡ itemOf e → (isOf A i j e ≡ true) × (footIn (some e) ≡ φ)
-item-isOf A i j φ (recorded it p x y z) h =
-    subst (λ (it′ : Item). (isOf A i j (recorded it′ p x y z) ≡ true) × (footIn (some (recorded it′ p x y z)) ≡ φ)) h
-    (simp eqb-self, refl)
 
 bare-item : (φ : Foot) → isBare φ ≡ true → φ ≡ bare
 bare-item bare t = refl
@@ -50,10 +52,6 @@ isBareOf-item : (A i j : ℕ) (e : Record) → isBareOf A i j e ≡ true → ite
 isBareOf-item A i j (recorded (item A′ i′ j′ φ) p x y z) t =
     let (u, v) = and-eq-true-iff (eqb A′ A && (eqb i′ i && eqb j′ j)) _ .0 t in
     isOf-item A i j (recorded (item A′ i′ j′ φ) p x y z) u ∙ ap (item A i j) (bare-item φ v)
-
-item-isBareOf : (A i j : ℕ) (e : Record) → item A i j bare ≡ itemOf e → isBareOf A i j e ≡ true
-item-isBareOf A i j (recorded it p x y z) h =
-    subst (λ (it′ : Item). isBareOf A i j (recorded it′ p x y z) ≡ true) h (simp eqb-self)
 
 -- The positions of a cell's records, both ways.
 module _ (c : List Record) (A i j : ℕ) where
@@ -67,21 +65,17 @@ module _ (c : List Record) (A i j : ℕ) where
       let (e, s, t) = in-placesAll (isBareOf A i j) c m in
       subst (Earlier c (length c) x) (isBareOf-item A i j e t) (stands-earlier e s)
 
-  pub places-in : {φ : Foot} → Has c (item A i j φ) → (x : ℕ) × List·Memᴰ x (places c A i j) × (footAt c x ≡ φ)
-  places-in {φ} h =
-      let (e, m, q) = in-map itemOf c h in
-      let (x, s) = in-stands m in
-      let (t, f) = item-isOf A i j φ e q in
-      (x, placesAll-in (isOf A i j) s t, ap footIn (stands-getElem s) ∙ f)
+  earlier-places : {m x : ℕ} {φ : Foot} → Earlier c m x (item A i j φ) → List·Memᴰ x (places c A i j) × (footAt c x ≡ φ)
+  earlier-places (earlier l s) = (placesAll-in (isOf A i j) s (simp eqb-self), ap footIn (stands-getElem s))
 
-  pub barePlaces-in : Has c (item A i j bare) → (x : ℕ) × List·Memᴰ x (barePlaces c A i j)
-  barePlaces-in h =
-      let (e, m, q) = in-map itemOf c h in
-      let (x, s) = in-stands m in
-      (x, placesAll-in (isBareOf A i j) s (item-isBareOf A i j e q))
+  earlier-barePlaces : {m x : ℕ} → Earlier c m x (item A i j bare) → List·Memᴰ x (barePlaces c A i j)
+  earlier-barePlaces (earlier l s) = placesAll-in (isBareOf A i j) s (simp eqb-self)
+
+  pub places-in : {φ : Foot} → Has c (item A i j φ) → (x : ℕ) × List·Memᴰ x (places c A i j) × (footAt c x ≡ φ)
+  places-in h = let (x, e) = has-earlier h in let (m, f) = earlier-places e in (x, m, f)
 
 -- What an action's records are.
-data Acted (c : List Record) (a : Action) (D k m A i j p x : ℕ) : Record → Type 0 where
+pub data Acted (c : List Record) (a : Action) (D k m A i j p x : ℕ) : Record → Type 0 where
   acted : {y z : ℕ} {ψ φ : Foot} → Earlier c (length c) y (item D k m ψ) → Results c (length c) a D k m ψ z φ
       → Acted c a D k m A i j p x (recorded (item A i j φ) p x y z)
 
@@ -102,7 +96,7 @@ module _ (c : List Record) (D k m A i j p x : ℕ) where
       let s′ = subst (λ (i : ℕ). Earlier c (length c) y (item D k m (foot i B q r))) (eqb-true γ′ γ t) s in
       subst (Acted c (Give γ) D k m A i j p x) (sym (List·Memᴰ·eq-of-singleton w)) (acted s′ (given (in-places c B q r v)))
 
-  in-byAction : {e : Record} (a : Action) → List·Memᴰ e (byAction c a D k m A i j p x) → Acted c a D k m A i j p x e
+  pub in-byAction : {e : Record} (a : Action) → List·Memᴰ e (byAction c a D k m A i j p x) → Acted c a D k m A i j p x e
   in-byAction (Take γ) h = in-taken γ (places c D k m) (λ y n. n) h
   in-byAction Keep h =
       let (y, n, f) = in-concatMap (keptFrom c A i j p x) (places c D k m) h in
@@ -111,35 +105,35 @@ module _ (c : List Record) (D k m A i j p x : ℕ) where
       let (y, n, f) = in-concatMap (givenFrom c A i j p x γ) (places c D k m) h in
       in-given γ (footAt c y) (in-places c D k m n) f
 
-  -- A derived result is among them.
-  taken-in : {y : ℕ} {ys : List ℕ} (φ : Foot) → List·Memᴰ y ys → Has (takenFrom A i j p x φ ys) (item A i j φ)
-  taken-in φ (List·Memᴰ·head e) = List·Memᴰ·head refl
-  taken-in φ (List·Memᴰ·tail n) = List·Memᴰ·head refl
+  -- Each result is among them, of a take with the first dependent.
+  taken-in : {y : ℕ} {ys : List ℕ} (φ : Foot) → List·Memᴰ y ys
+      → (y′ : ℕ) × List·Memᴰ (recorded (item A i j φ) p x y′ nowhere) (takenFrom A i j p x φ ys)
+  taken-in φ (List·Memᴰ·head {x = y} e) = (y, List·Memᴰ·head refl)
+  taken-in φ (List·Memᴰ·tail {x = y} n) = (y, List·Memᴰ·head refl)
 
-  given-in : {B q r : ℕ} {φ : Foot} (y γ : ℕ) → Has c (item B q r φ)
-      → Has (givenFoot c A i j p x y γ (foot γ B q r)) (item A i j φ)
-  given-in {B} {q} {r} {φ} y γ h =
-      let (z, n, f) = places-in c B q r h in
-      map-wider itemOf (continued c A i j p x y z) _
-      (λ e w. choice-in (eqb γ γ) _ (eqb-self γ) (concatMap-in (continued c A i j p x y) n w))
-      (List·Memᴰ·head (ap (item A i j) (sym f)))
+  given-in : {z B q r : ℕ} {φ : Foot} (y γ : ℕ) → Earlier c (length c) z (item B q r φ)
+      → List·Memᴰ (recorded (item A i j φ) p x y z) (givenFoot c A i j p x y γ (foot γ B q r))
+  given-in {B = B} {q} {r} y γ e =
+      let (n, f) = earlier-places c B q r e in
+      choice-in (eqb γ γ) _ (eqb-self γ) (concatMap-in (continued c A i j p x y) n (rw f (List·Memᴰ·head refl)))
 
-  byAction-in : {a : Action} {ψ φ : Foot} → Has c (item D k m ψ) → Makes (map itemOf c) a D k m ψ φ
-      → Has (byAction c a D k m A i j p x) (item A i j φ)
-  byAction-in d ItemSteps.taken = let (y, n, f) = places-in c D k m d in taken-in _ n
-  byAction-in d ItemSteps.kept =
-      let (y, n, f) = places-in c D k m d in
-      map-wider itemOf (keptFrom c A i j p x y) _ (λ e w. concatMap-in (keptFrom c A i j p x) n w)
-      (List·Memᴰ·head (ap (item A i j) (sym f)))
-  byAction-in d (ItemSteps.given {γ} h) =
-      let (y, n, f) = places-in c D k m d in
-      map-wider itemOf (givenFrom c A i j p x γ y) _ (λ e w. concatMap-in (givenFrom c A i j p x γ) n w)
-      (rw f (given-in y γ h))
+  byAction-in : {y z : ℕ} {a : Action} {ψ φ : Foot} → Earlier c (length c) y (item D k m ψ) → Results c (length c) a D k m ψ z φ
+      → (y′ : ℕ) × List·Memᴰ (recorded (item A i j φ) p x y′ z) (byAction c a D k m A i j p x) × (compared a x y′ z ≡ compared a x y z)
+  byAction-in d taken =
+      let (n, f) = earlier-places c D k m d in
+      let (y′, q) = taken-in _ n in
+      (y′, q, refl)
+  byAction-in {y} d kept =
+      let (n, f) = earlier-places c D k m d in
+      (y, concatMap-in (keptFrom c A i j p x) n (rw f (List·Memᴰ·head refl)), refl)
+  byAction-in {y} d (given {γ} e) =
+      let (n, f) = earlier-places c D k m d in
+      (y, concatMap-in (givenFrom c A i j p x γ) n (rw f (given-in y γ e)), refl)
 
--- A candidate is justified.
+-- A candidate is a step; one at the split k by production p has a key that begins so.
 module _ (g : List Rule) (at : ℕ → ℕ → Bool) (c : List Record) (A i : ℕ) where
-  in-byRule : {e : Record} (k j p : ℕ) (r : Rule) → Stands g p r → List·Memᴰ e (byRule c A i k j p r)
-      → Justified g (Holds at) c (length c) e
+  pub in-byRule : {e : Record} (k j p : ℕ) (r : Rule) → Stands g p r → List·Memᴰ e (byRule c A i k j p r)
+      → Moves g (Holds at) c (length c) e (p ∷ k ∷ positions r e)
   in-byRule k j p (Lexical A′ w) s h = absurd (List·Memᴰ·not-nil h)
   in-byRule k j p (Spine A′ a (B ∷ []) D []) s h =
       let (t, m) = in-choice (eqb A′ A) _ h in
@@ -148,7 +142,7 @@ module _ (g : List Rule) (at : ℕ → ℕ → Bool) (c : List Record) (A i : �
       first s′ (in-barePlaces c B i k n) (in-byAction c D k j A i j p x a f)
     where
       first : {e : Record} {x : ℕ} → Stands g p (Spine A a (B ∷ []) D []) → Earlier c (length c) x (item B i k bare)
-          → Acted c a D k j A i j p x e → Justified g (Holds at) c (length c) e
+          → Acted c a D k j A i j p x e → Moves g (Holds at) c (length c) e (p ∷ k ∷ positions (Spine A′ a (B ∷ []) D []) e)
       first s x (acted y z) = sideFirst s x y z
   in-byRule k j p (Spine A′ a (B ∷ []) D (C ∷ after)) s h = absurd (List·Memᴰ·not-nil h)
   in-byRule k j p (Spine A′ a (B ∷ C ∷ before) D after) s h = absurd (List·Memᴰ·not-nil h)
@@ -160,84 +154,95 @@ module _ (g : List Rule) (at : ℕ → ℕ → Bool) (c : List Record) (A i : �
       last s′ (in-barePlaces c B k j n) (in-byAction c D i k A i j p x a f)
     where
       last : {e : Record} {x : ℕ} → Stands g p (Spine A a [] D (B ∷ [])) → Earlier c (length c) x (item B k j bare)
-          → Acted c a D i k A i j p x e → Justified g (Holds at) c (length c) e
+          → Acted c a D i k A i j p x e → Moves g (Holds at) c (length c) e (p ∷ k ∷ positions (Spine A′ a [] D (B ∷ [])) e)
       last s x (acted y z) = sideLast s y x z
   in-byRule k j p (Spine A′ a [] D (B ∷ C ∷ after)) s h = absurd (List·Memᴰ·not-nil h)
 
   in-byWord : {e : Record} (p : ℕ) (r : Rule) → Stands g p r → List·Memᴰ e (byWord at A i p r)
-      → Justified g (Holds at) c (length c) e
+      → Moves g (Holds at) c (length c) e (p ∷ suc i ∷ [])
   in-byWord p (Lexical A′ w) s h =
       let (t, f) = in-only (eqb A′ A && at i w) h in
       let (t₁, t₂) = and-eq-true-iff (eqb A′ A) _ .0 t in
       let s′ = subst (λ (X : ℕ). Stands g p (Lexical X w)) (eqb-true A′ A t₁) s in
-      subst (Justified g (Holds at) c (length c)) (sym f) (Chart.byWord s′ t₂)
+      subst (λ (e : Record). Moves g (Holds at) c (length c) e (p ∷ suc i ∷ [])) (sym f) (Ways.byWord s′ t₂)
   in-byWord p (Spine A′ a before D after) s h = absurd (List·Memᴰ·not-nil h)
 
   in-byRuleOver : {e : Record} (len p : ℕ) (r : Rule) → Stands g p r → List·Memᴰ e (byRuleOver at c A i len p r)
-      → Justified g (Holds at) c (length c) e
+      → (rest : List ℕ) × Moves g (Holds at) c (length c) e (p ∷ rest)
   in-byRuleOver zero p r s h = absurd (List·Memᴰ·not-nil h)
-  in-byRuleOver (suc zero) p r s h = in-byWord p r s h
-  in-byRuleOver (suc (suc len)) p r s h =
+  in-byRuleOver (suc zero) p r s h = (suc i ∷ [], in-byWord p r s h)
+  in-byRuleOver {e} (suc (suc len)) p r s h =
       let j = i + suc (suc len) in
       let (k, a, b, m) = in-flatUp (ruleAt c A i j p r) (suc i) (j - suc i) h in
-      in-byRule (turned (dependentFirst r) (i + j) k) j p r s m
+      (k ∷ positions r e, in-byRule k j p r s m)
+
+  pub in-byProduction : {e : Record} (len p : ℕ) → List·Memᴰ e (byProduction g at c A i len p)
+      → (rest : List ℕ) × Moves g (Holds at) c (length c) e (p ∷ rest)
+  in-byProduction len p h =
+      let (r, f, n) = in-option (byRuleOver at c A i len p) (getElem? g p) h in
+      in-byRuleOver len p r (getElem-stands g p f) n
 
   pub in-candidates : {e : Record} (len : ℕ) → List·Memᴰ e (candidates g at c A i len) → Justified g (Holds at) c (length c) e
   in-candidates len h =
       let (p, a, b, m) = in-flatUp (byProduction g at c A i len) 0 (length g) h in
-      let (r, f, n) = in-option (byRuleOver at c A i len p) (getElem? g p) m in
-      in-byRuleOver len p r (getElem-stands g p f) n
+      let (rest, f) = in-byProduction len p m in
+      justified-of-moves f
 
--- The candidates have every item that a rule makes of items of the chart.
+-- `Offers g c rs f`: one of the records rs has the item and the key of f.
+pub data Offers (g : List Rule) (c rs : List Record) (f : Record) : Type 0 where
+  offers : {f′ : Record} → List·Memᴰ f′ rs → itemOf f′ ≡ itemOf f → keyOf g c f′ ≡ keyOf g c f → Offers g c rs f
+
+-- So one has its item, and what comes before each of these comes before f.
+offers-has : {g : List Rule} {c rs : List Record} {f : Record} → Offers g c rs f → Has rs (itemOf f)
+offers-has (offers m e k) = Memᴰ·cast (sym e) (map-in itemOf m)
+
+pub offers-order : {g : List Rule} {c rs : List Record} {f : Record} (e : Record) → Offers g c rs f
+    → ((f′ : Record) → List·Memᴰ f′ rs → itemOf f′ ≡ itemOf f → InOrder g c e f′) → InOrder g c e f
+offers-order {g} {c} e (offers {f′} m q k) h = subst (NotAfter _<_ (keyOf g c e)) k (h f′ m q)
+
+-- Each step to an item of the cell is offered by the candidates.
 module _ (g : List Rule) (at : ℕ → ℕ → Bool) (c : List Record) where
-  production-in : {p : ℕ} {r : Rule} {x : Item} (A i len : ℕ) → Stands g p r → Has (byRuleOver at c A i len p r) x
-      → Has (candidates g at c A i len) x
+  production-in : {p : ℕ} {r : Rule} {e : Record} (A i len : ℕ) → Stands g p r → List·Memᴰ e (byRuleOver at c A i len p r)
+      → List·Memᴰ e (candidates g at c A i len)
   production-in {p} {r} A i len s h =
-      map-wider itemOf (byRuleOver at c A i len p r) _
-      (λ o m. flatUp-in (byProduction g at c A i len) 0 (length g) p (omega arith) (omega (arith, stands-length s))
-      (option-in (byRuleOver at c A i len p) (getElem? g p) (stands-getElem s) m))
-      h
+      flatUp-in (byProduction g at c A i len) 0 (length g) p (omega arith) (omega (arith, stands-length s))
+      (option-in (byRuleOver at c A i len p) (getElem? g p) (stands-getElem s) h)
 
-  word-in : {p A w i : ℕ} (len : ℕ) → suc i ≡ i + len → Stands g p (Lexical A w) → at i w ≡ true
-      → Has (candidates g at c A i len) (item A i (suc i) bare)
+  pub word-in : {p A w i : ℕ} (len : ℕ) → suc i ≡ i + len → Stands g p (Lexical A w) → at i w ≡ true
+      → Offers g c (candidates g at c A i len) (recorded (item A i (suc i) bare) p nowhere nowhere nowhere)
   word-in zero e s t = absurd (omega arith)
   word-in {p} {A} {w} {i} (suc zero) e s t =
-      production-in A i 1 s (rw (eqb-self A, t) (List·Memᴰ·head refl))
+      offers {f′ = recorded (item A i (suc i) bare) p nowhere nowhere nowhere}
+      (production-in A i 1 s (rw (eqb-self A, t) (List·Memᴰ·head refl))) refl refl
   word-in (suc (suc len)) e s t = absurd (omega arith)
 
-  rule-in : {p k j : ℕ} {r : Rule} {x : Item} (A i len : ℕ) → j ≡ i + len → Stands g p r → i < k → k < j
-      → Has (byRule c A i k j p r) x → Has (candidates g at c A i len) x
+  rule-in : {p k j : ℕ} {r : Rule} {e : Record} (A i len : ℕ) → j ≡ i + len → Stands g p r → i < k → k < j
+      → List·Memᴰ e (byRule c A i k j p r) → List·Memᴰ e (candidates g at c A i len)
   rule-in A i zero e s a b h = absurd (omega arith)
   rule-in A i (suc zero) e s a b h = absurd (omega arith)
-  rule-in {p} {k} {j} {r} {x} A i (suc (suc len)) e s a b h =
+  rule-in {p} {k} {j} {r} {e = o} A i (suc (suc len)) e s a b h =
       let j′ = i + suc (suc len) in
-      let turn = turned (dependentFirst r) (i + j′) in
-      let (u, v) = turned-within (dependentFirst r) i j′ k a (omega arith) in
       production-in A i (suc (suc len)) s
-      (map-wider itemOf (byRule c A i k j′ p r) _
-      (λ o m. flatUp-in (ruleAt c A i j′ p r) (suc i) (j′ - suc i) (turn k) u (omega arith)
-      (subst (λ (k′ : ℕ). List·Memᴰ o (byRule c A i k′ j′ p r)) (sym (turned-twice (dependentFirst r) (i + j′) k (omega arith))) m))
-      (subst (λ (j″ : ℕ). Has (byRule c A i k j″ p r) x) e h))
+      (flatUp-in (ruleAt c A i j′ p r) (suc i) (j′ - suc i) k a (omega arith)
+      (subst (λ (j″ : ℕ). List·Memᴰ o (byRule c A i k j″ p r)) e h))
 
-  first-in : {p A B D i k j : ℕ} {a : Action} {ψ φ : Foot} (len : ℕ) → j ≡ i + len → Stands g p (Spine A a (B ∷ []) D [])
-      → i < k → k < j → Has c (item B i k bare) → Has c (item D k j ψ) → Makes (map itemOf c) a D k j ψ φ
-      → Has (candidates g at c A i len) (item A i j φ)
-  first-in {p} {A} {B} {D} {i} {k} {j} {a} len e s u v b d w =
-      let (x, n) = barePlaces-in c B i k b in
-      rule-in A i len e s u v
-      (map-wider itemOf (byAction c a D k j A i j p x) _
-      (λ r m. choice-in (eqb A A) _ (eqb-self A) (concatMap-in (byAction c a D k j A i j p) n m))
-      (byAction-in c D k j A i j p x d w))
+  pub first-in : {p A B D i k j x y z : ℕ} {a : Action} {ψ φ : Foot} (len : ℕ) → j ≡ i + len → i < k → k < j
+      → Stands g p (Spine A a (B ∷ []) D []) → Earlier c (length c) x (item B i k bare) → Earlier c (length c) y (item D k j ψ)
+      → Results c (length c) a D k j ψ z φ → Offers g c (candidates g at c A i len) (recorded (item A i j φ) p x y z)
+  first-in {p} {A} {B} {D} {i} {k} {j} {x} {a = a} len e u v s b d w =
+      let (y′, m, q) = byAction-in c D k j A i j p x d w in
+      offers (rule-in A i len e s u v
+      (choice-in (eqb A A) _ (eqb-self A) (concatMap-in (byAction c a D k j A i j p) (earlier-barePlaces c B i k b) m)))
+      refl (rw (stands-getElem s, q))
 
-  last-in : {p A B D i k j : ℕ} {a : Action} {ψ φ : Foot} (len : ℕ) → j ≡ i + len → Stands g p (Spine A a [] D (B ∷ []))
-      → i < k → k < j → Has c (item B k j bare) → Has c (item D i k ψ) → Makes (map itemOf c) a D i k ψ φ
-      → Has (candidates g at c A i len) (item A i j φ)
-  last-in {p} {A} {B} {D} {i} {k} {j} {a} len e s u v b d w =
-      let (x, n) = barePlaces-in c B k j b in
-      rule-in A i len e s u v
-      (map-wider itemOf (byAction c a D i k A i j p x) _
-      (λ r m. choice-in (eqb A A) _ (eqb-self A) (concatMap-in (byAction c a D i k A i j p) n m))
-      (byAction-in c D i k A i j p x d w))
+  pub last-in : {p A B D i k j x y z : ℕ} {a : Action} {ψ φ : Foot} (len : ℕ) → j ≡ i + len → i < k → k < j
+      → Stands g p (Spine A a [] D (B ∷ [])) → Earlier c (length c) y (item D i k ψ) → Earlier c (length c) x (item B k j bare)
+      → Results c (length c) a D i k ψ z φ → Offers g c (candidates g at c A i len) (recorded (item A i j φ) p x y z)
+  last-in {p} {A} {B} {D} {i} {k} {j} {x} {a = a} len e u v s d b w =
+      let (y′, m, q) = byAction-in c D i k A i j p x d w in
+      offers (rule-in A i len e s u v
+      (choice-in (eqb A A) _ (eqb-self A) (concatMap-in (byAction c a D i k A i j p) (earlier-barePlaces c B k j b) m)))
+      refl (rw (stands-getElem s, q))
 
 -- The span k to m lies within i to j, and is shorter. A rule's dependent is so within its result.
 abbrev pub Inside : ℕ → ℕ → ℕ → ℕ → Type 0
@@ -253,22 +258,27 @@ module _ (n : ℕ) (g : List Rule) (at : ℕ → ℕ → Bool) (one : OneSided g
   abbrev Short : ℕ → ℕ → Type 0
   Short i j = (B k m : ℕ) (φ : Foot) → Derived g (Holds at) B k m φ → Inside i j k m → Has c (item B k m φ)
 
-  spine-in : {p A D i k m j : ℕ} {a : Action} {before after : List ℕ} {ψ φ : Foot} → Short i j → OneSide (Spine A a before D after)
+  spine-in : {p A D i k m j z : ℕ} {a : Action} {before after : List ℕ} {ψ φ : Foot} → Short i j → OneSide (Spine A a before D after)
       → j ≡ i + len → Stands g p (Spine A a before D after) → Sides g (Holds at) before i k → Derived g (Holds at) D k m ψ
-      → Sides g (Holds at) after m j → Makes (map itemOf c) a D k m ψ φ → Has (candidates g at c A i len) (item A i j φ)
+      → Sides g (Holds at) after m j → Results c (length c) a D k m ψ z φ → Has (candidates g at c A i len) (item A i j φ)
   spine-in short isFirst e s (nextSide b noSide) d noSide w =
-      let x = derived-longer b in let y = derived-longer d in
-      first-in g at c len e s x y (short _ _ _ _ b (omega arith)) (short _ _ _ _ d (omega arith)) w
+      let u = derived-longer b in let v = derived-longer d in
+      let b′ = short _ _ _ _ b (omega arith) in let d′ = short _ _ _ _ d (omega arith) in
+      let (x, x′) = has-earlier b′ in let (y, y′) = has-earlier d′ in
+      offers-has (first-in g at c len e u v s x′ y′ w)
   spine-in short isLast e s noSide d (nextSide b noSide) w =
-      let x = derived-longer b in let y = derived-longer d in
-      last-in g at c len e s y x (short _ _ _ _ b (omega arith)) (short _ _ _ _ d (omega arith)) w
+      let u = derived-longer b in let v = derived-longer d in
+      let b′ = short _ _ _ _ b (omega arith) in let d′ = short _ _ _ _ d (omega arith) in
+      let (x, x′) = has-earlier b′ in let (y, y′) = has-earlier d′ in
+      offers-has (last-in g at c len e v u s y′ x′ w)
 
   pub candidates-in : {A i j : ℕ} {φ : Foot} → Short i j → j ≡ i + len → Derived g (Holds at) A i j φ
       → Has (candidates g at c A i len) (item A i j φ)
-  candidates-in short e (wordStep s t) = word-in g at c len e s t
-  candidates-in short e (takeStep s b d a) = spine-in short (one _ _ s) e s b d a ItemSteps.taken
-  candidates-in short e (keepStep s b d a) = spine-in short (one _ _ s) e s b d a ItemSteps.kept
+  candidates-in short e (wordStep s t) = offers-has (word-in g at c len e s t)
+  candidates-in short e (takeStep s b d a) = spine-in short (one _ _ s) e s b d a taken
+  candidates-in short e (keepStep s b d a) = spine-in short (one _ _ s) e s b d a kept
   candidates-in short e (giveStep s b d a f) =
       let u = dependent-inside (one _ _ s) b a in
       let v = derived-bounds n below d in
-      spine-in short (one _ _ s) e s b d a (ItemSteps.given (short _ _ _ _ f (omega arith)))
+      let (z, h) = has-earlier (short _ _ _ _ f (omega arith)) in
+      spine-in short (one _ _ s) e s b d a (given h)

@@ -138,7 +138,7 @@ module _ (room N n : ℕ) (g : List Rule) (at : ℕ → ℕ → Bool) (one : One
   abbrev State : (ℕ → ℕ → ℕ → Type 0) → Option (List Record) → Type 0
   State P s = Reached room g at (Cells g at P) s
 
-  derived-left : {A i j : ℕ} {φ : Foot} → Derived g (Holds at) A i j φ → A < N
+  pub derived-left : {A i j : ℕ} {φ : Foot} → Derived g (Holds at) A i j φ → A < N
   derived-left (wordStep s t) = lefts _ _ s
   derived-left (takeStep s b d a) = lefts _ _ s
   derived-left (keepStep s b d a) = lefts _ _ s

@@ -6,14 +6,14 @@ use native.Mathlib.Nat.{zero-add, add-zero, add-suc, suc-add, le-refl}
 use native.Mathlib.Decide.{ℕ-discrete}
 use native.Mathlib.Omega.{arith}
 use mathlib.Core.Path.{_≡_, refl, sym, _∙_, ap, subst, subst₃}
-use mathlib.Core.Logic.{inl, inr}
+use mathlib.Core.Logic.{_⊎_, inl, inr}
 use mathlib.Core.Bool.{Bool, true, false, cond, _&&_, false≢true, and-eq-true-iff}
 use mathlib.Core.List.{List, [], _∷_, _++_, map, append-nil, List·Memᴰ, List·Memᴰ·head, List·Memᴰ·tail, List·Memᴰ·not-nil, List·Memᴰ·cases-cons, List·Memᴰ·eq-of-singleton}
 use mathlib.Core.Option.{Option, none, some}
 use lib.Dec.{eqb}
 use lib.ListN.{length, length-append, getElem?}
 use borrow.Author.Tests.{eqb-true}
-use Rattle.grammar.specs.Lists.{only}
+use Rattle.grammar.specs.Lists.{Stands, only}
 use Rattle.grammar.specs.Rewriting.{Rule, Lexical, Spine, Action, Take, Keep, Give}
 use Rattle.grammar.specs.Items.{Foot, bare, foot}
 use Rattle.grammar.specs.ItemList.{Item, item, isBare, among}
@@ -22,8 +22,8 @@ use Rattle.layout.specs.Bytes.{counted}
 use Rattle.grammar.proofs.ListLaws.{eqb-self, in-concatMap, in-only, map-in, stands-in}
 use Rattle.grammar.proofs.StandsLaws.{none-some, some-same, stands-getElem}
 use Rattle.grammar.proofs.ItemTests.{in-choice, among-true}
-use Rattle.chart_model.specs.Build.{foldUp, placesFrom, isOf, isBareOf, places, barePlaces, footIn, footAt, takenFrom, keptFrom, continued, givenFoot, givenFrom, byAction, byRule, dependentFirst, turned, ruleAt, acrossSplits, byWord, byRuleOver, byProduction, candidates, addEach, fillCell, closeSpan, closeBack, closeEnd}
-use Rattle.chart_model.proofs.BuildLaws.{Has, in-flatUp, in-placesAll, placesAll-in, placesFrom-append, added-cases, addEach-none, in-option, getElem-append, stands-last}
+use Rattle.chart_model.specs.Build.{foldUp, placesFrom, isOf, isBareOf, places, barePlaces, footIn, footAt, takenFrom, keptFrom, continued, givenFoot, givenFrom, byAction, byRule, ruleAt, byWord, byRuleOver, byProduction, candidates, addEach, fillCell, closeSpan, closeBack, closeEnd}
+use Rattle.chart_model.proofs.BuildLaws.{Has, in-flatUp, in-placesAll, placesAll-in, placesFrom-append, added-cases, addEach-none, in-option, getElem-append, stands-append, stands-last, stands-cases}
 use Rattle.chart_model.proofs.Candidates.{places-in, in-barePlaces}
 
 -- The cell of a record's item is one of P's; and the one cell of A over i to j.
@@ -52,6 +52,23 @@ grown-wider {P} {Q} f (more r g i new) = more r (grown-wider f g) (wider r i) ne
 pub grown-length : {P : ℕ → ℕ → ℕ → Type 0} {c b : List Record} → Grown P c b → length c ≤ length b
 grown-length {c = c} same = le-refl (length c)
 grown-length (more {b} r g i new) = omega (arith, grown-length g, length-append b (r ∷ []))
+
+-- What stood stays, and what stands was there or is of a cell of P.
+pub grown-stands : {P : ℕ → ℕ → ℕ → Type 0} {c b : List Record} {m : ℕ} {e : Record} → Grown P c b → Stands c m e → Stands b m e
+grown-stands same s = s
+grown-stands (more r g i new) s = stands-append (r ∷ []) (grown-stands g s)
+
+pub grown-cases : {P : ℕ → ℕ → ℕ → Type 0} {c b : List Record} {m : ℕ} {e : Record} → Grown P c b → Stands b m e
+    → Stands c m e ⊎ ((length c ≤ m) × InCell P e)
+grown-cases same s = inl s
+grown-cases {P} (more {b} r g i new) s = elim (stands-cases b s) [
+  | inl p ↦ grown-cases g p
+  | inr p ↦ inr (omega (arith, grown-length g), subst (InCell P) (sym (p .1)) i)
+]
+
+pub grown-back : {P : ℕ → ℕ → ℕ → Type 0} {c b : List Record} {m : ℕ} {e : Record} → Grown P c b → (InCell P e → ⊥) → Stands b m e
+    → Stands c m e
+grown-back g out s = elim (grown-cases g s) [ inl t ↦ t | inr w ↦ absurd (out (w .1)) ]
 
 -- What is added of a list of records is of their cells.
 pub each-grown : {P : ℕ → ℕ → ℕ → Type 0} {c b e : List Record} (room : ℕ) (rs : List Record)
@@ -117,9 +134,9 @@ module _ (g : List Rule) (at : ℕ → ℕ → Bool) (c : List Record) (A i : �
   of-over (suc (suc len)) p r h =
       let j = i + suc (suc len) in
       let (k, a, b, m) = in-flatUp (ruleAt c A i j p r) (suc i) (j - suc i) h in
-      of-rule (turned (dependentFirst r) (i + j) k) j p r m
+      of-rule k j p r m
 
-  of-candidates : {e : Record} (len : ℕ) → List·Memᴰ e (candidates g at c A i len) → Of A i (i + len) e
+  pub of-candidates : {e : Record} (len : ℕ) → List·Memᴰ e (candidates g at c A i len) → Of A i (i + len) e
   of-candidates len h =
       let (p, a, b, m) = in-flatUp (byProduction g at c A i len) 0 (length g) h in
       let (r, f, n) = in-option (byRuleOver at c A i len p) (getElem? g p) m in
@@ -143,19 +160,23 @@ fold-none f s m (suc k) stays q l = elim (ℕ-discrete m (suc k)) [
 abbrev Below : (ℕ → ℕ → ℕ → ℕ → Type 0) → ℕ → ℕ → ℕ → ℕ → Type 0
 Below P m A i j = (l : ℕ) × (l < m) × P l A i j
 
+-- A fold that comes to a chart had one before its last turn.
+pub fold-last : {b : List Record} (f : ℕ → Option (List Record) → Option (List Record)) → ((l : ℕ) → f l none ≡ none) → (m : ℕ)
+    → (c : List Record) → foldUp f (suc m) (some c) ≡ some b → (d : List Record) × (foldUp f m (some c) ≡ some d) × (f m (some d) ≡ some b)
+fold-last {b} f stays m c q = go (foldUp f m (some c)) refl
+  where
+    go : (s : Option (List Record)) → foldUp f m (some c) ≡ s → (d : List Record) × (foldUp f m (some c) ≡ some d) × (f m (some d) ≡ some b)
+    go none e = absurd (none-some (sym (stays m) ∙ (ap (f m) (sym e) ∙ q)))
+    go (some d) e = (d, e, ap (f m) (sym e) ∙ q)
+
 fold-grown : {P : ℕ → ℕ → ℕ → ℕ → Type 0} {c b : List Record} (f : ℕ → Option (List Record) → Option (List Record))
     → ((l : ℕ) → f l none ≡ none) → ((l : ℕ) (c b : List Record) → f l (some c) ≡ some b → Grown (P l) c b) → (m : ℕ)
     → foldUp f m (some c) ≡ some b → Grown (Below P m) c b
 fold-grown {P} {c} f stays step zero q = subst (Grown (Below P 0) c) (some-same q) same
 fold-grown {P} {c} {b} f stays step (suc m) q =
-    go (foldUp f m (some c)) refl (λ d e. fold-grown {b = d} f stays step m e)
-  where
-    go : (s : Option (List Record)) → foldUp f m (some c) ≡ s
-        → ((d : List Record) → foldUp f m (some c) ≡ some d → Grown (Below P m) c d) → Grown (Below P (suc m)) c b
-    go none e rec = absurd (none-some (sym (stays m) ∙ (ap (f m) (sym e) ∙ q)))
-    go (some d) e rec =
-        grown-then (grown-wider (λ A i j (l, h, p). (l, omega arith, p)) (rec d e))
-        (grown-wider (λ A i j p. (m, le-refl (suc m), p)) (step m d b (ap (f m) (sym e) ∙ q)))
+    let (d, e, r) = fold-last f stays m c q in
+    grown-then (grown-wider (λ A i j (l, h, p). (l, omega arith, p)) (fold-grown f stays step m e))
+    (grown-wider (λ A i j p. (m, le-refl (suc m), p)) (step m d b r))
 
 module _ (room : ℕ) (g : List Rule) (at : ℕ → ℕ → Bool) where
   -- So it is for a span, and for the spans of an end.

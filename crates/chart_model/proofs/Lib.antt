@@ -1,5 +1,10 @@
 pub mod BuildLaws
+pub mod Keys
 pub mod Candidates
 pub mod Exact
 pub mod FillModel
 pub mod Absent
+pub mod Rising
+pub mod FirstStays
+pub mod Stages
+pub mod FirstSteps

@@ -1,7 +1,9 @@
 -- What the chart builder computes, over lists. Spans are closed by their end and then from the shortest, and within a span nonterminal
--- by nonterminal, so that the items of A over i to j, a cell, stand together. proofs/Exact.antt shows that the result is a chart.
+-- by nonterminal, so that the items of A over i to j, a cell, stand together. Within a cell candidates come by production, then by split,
+-- then by the positions of dependents and of continuations, each rising, and the first with an item stays. proofs/Exact.antt shows that
+-- the result is a chart, proofs/FirstSteps.antt that it has first steps.
 use Prim.Native.Nat.{ℕ, zero, suc, _+_, _-_}
-use mathlib.Core.Bool.{Bool, true, false, cond, _&&_}
+use mathlib.Core.Bool.{Bool, true, false, _&&_}
 use mathlib.Core.List.{List, [], _∷_, _++_, map}
 use mathlib.Core.Option.{Option, none, some}
 use lib.Dec.{eqb, ltb}
@@ -9,7 +11,7 @@ use lib.ListN.{length, getElem?}
 use Rattle.grammar.specs.Lists.{concatMap, only}
 use Rattle.grammar.specs.Rewriting.{Rule, Lexical, Spine, Action, Take, Keep, Give}
 use Rattle.grammar.specs.Items.{Foot, bare, foot}
-use Rattle.grammar.specs.ItemList.{Item, item, isBare, among}
+use Rattle.grammar.specs.ItemList.{item, isBare, among}
 use Rattle.grammar.specs.Chart.{Record, recorded, itemOf, nowhere}
 
 -- f at m places from `from` on, one after the other; and s changed by f at each of m places from 0 on.
@@ -83,20 +85,9 @@ byRule c A i k j p (Spine A′ a [] D (B ∷ [])) =
     elim (eqb A′ A) [ true ↦ concatMap (byAction c a D i k A i j p) (barePlaces c B k j) | false ↦ [] ]
 byRule c A i k j p (Spine A′ a [] D (B ∷ C ∷ after)) = []
 
--- Where the dependent stands first, the turns of a rule go through the splits from the right, so that long dependents come first: they
--- bring most feet.
-abbrev pub dependentFirst : Rule → Bool
-dependentFirst (Lexical A w) = false
-dependentFirst (Spine A a [] D after) = true
-dependentFirst (Spine A a (B ∷ before) D after) = false
-
--- The split of a turn, where i + j is the sum.
-abbrev pub turned : Bool → ℕ → ℕ → ℕ
-turned back sum m = cond back (sum - m) m
-
--- The same at the split of turn m, and at every split of i to j; and the word production of A for the word at i.
+-- The same with the split last; at every split of i to j, from the left; and the word production of A for the word at i.
 abbrev pub ruleAt : List Record → ℕ → ℕ → ℕ → ℕ → Rule → ℕ → List Record
-ruleAt c A i j p r m = byRule c A i (turned (dependentFirst r) (i + j) m) j p r
+ruleAt c A i j p r k = byRule c A i k j p r
 
 abbrev pub acrossSplits : List Record → ℕ → ℕ → ℕ → ℕ → Rule → List Record
 acrossSplits c A i j p r = flatUp (ruleAt c A i j p r) (suc i) (j - suc i)
