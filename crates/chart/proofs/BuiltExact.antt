@@ -7,64 +7,66 @@ use mathlib.Core.Path.{_≡_, refl, sym, _∙_, ap, ap₂, subst}
 use mathlib.Core.Bool.{Bool}
 use mathlib.Core.List.{List, _++_}
 use mathlib.Core.Option.{Option, none, some}
-use lib.ListN.{length, take, drop, getD, replicate, length-replicate}
+use lib.ListN.{length, take, drop, replicate, length-replicate}
 use lib.Seq.{take-at, drop-at}
 use Rattle.grammar.specs.Rewriting.{Rule}
 use Rattle.grammar.specs.Input.{Holds}
 use Rattle.grammar.specs.ItemList.{items}
 use Rattle.grammar.specs.Chart.{Record, IsChart}
+use Rattle.grammar.specs.Ways.{FirstSteps}
 use Rattle.layout.specs.Card.{nonterminalCount, grammarOf}
 use Rattle.layout.specs.Records.{chartBytes, capacity}
 use Rattle.layout.proofs.Accepting.{accepted-counts}
 use Rattle.layout.proofs.CardLaws.{card-one-sided}
 use Rattle.places.specs.Places.{wordTest}
 use Rattle.records.specs.Room.{chartIn, numberedChart, numbersCleared}
-use Rattle.records.specs.Index.{spans}
+use Rattle.records.specs.Cells.{spans}
 use Rattle.records.proofs.RoomLaws.{numbered-chart-length}
 use Rattle.records.proofs.NumbersCleared.{cleared-chart}
 use Rattle.records.proofs.TableLaws.{spans-more}
 use Rattle.chart_model.specs.Build.{build}
 use Rattle.chart_model.proofs.Exact.{build-chart, build-room, build-none}
+use Rattle.chart_model.proofs.FirstSteps.{build-first}
 use Rattle.chart.specs.declared.Built.the-variants.{Chart, TooMany}
+use Rattle.sets.specs.Places.{setCount, OnlyClasses}
+use Rattle.sets.specs.Classes.{Classified}
+use Rattle.sets.proofs.SortedLaws.{sorted-none}
 use Rattle.chart.specs.Fill.{Between, Closed}
-use Rattle.chart.specs.Built.{Buildable, RoomLent, TablesLent, BuiltRoom}
-use Rattle.bits.proofs.BitLaws.{zero-at}
-use Rattle.chart.proofs.RowLaws.{rows-none}
+use Rattle.chart.specs.Built.{Buildable, RoomLent, TablesLent, Sized, BuiltRoom}
 use Rattle.chart.proofs.FillLaws.{start-between}
 use Rattle.chart.proofs.CardFits.{lefts-below}
 use Rattle.chart.proofs.BuiltLaws.{too-many, fitting}
 
-all-zero : (l : List ℕ) → l ≡ replicate (length l) 0 → (k : ℕ) → getD l k 0 ≡ 0
-all-zero l e k = ap (λ (m : List ℕ). getD m k 0) e ∙ zero-at (length l) k
+-- Tables of zeros, once the sets by the card are noted, are where the model starts.
+pub tables-start : {g : List Rule} (card places : List ℕ) (n room : ℕ) {chart marks cells zeros sets : List ℕ} → Buildable card places n
+    → RoomLent room chart → TablesLent n (nonterminalCount card) marks cells zeros → Classified g sets → OnlyClasses zeros sets
+    → Between g n (nonterminalCount card) room chart marks cells sets 0
+tables-start {g} card places n room {zeros = zeros} {sets} b l t classes only =
+    start-between (b .short) (accepted-counts card (b .accepted) .fewNonterminals) (l .small) (l .there) (t .marksThere) (t .cellsThere)
+    (t .marksZero) (t .cellsZero) classes
+    (sorted-none g n zeros sets (t .setsThere) (t .setsZero) only)
 
-pub tables-start : {g : List Rule} (card places : List ℕ) (n room : ℕ) {chart marks index covers sets : List ℕ} → Buildable card places n
-    → RoomLent room chart → TablesLent n (nonterminalCount card) marks index sets covers
-    → Between g n (nonterminalCount card) room chart marks index covers sets 0
-tables-start card places n room {marks = marks} {index = index} {sets = sets} b l t =
-    start-between (b .short) (accepted-counts card (b .accepted) .fewNonterminals) (l .small) (l .there) (t .marksThere) (t .indexThere)
-    (rows-none n sets (t .setsThere) (all-zero sets (t .setsZero))) (all-zero marks (t .marksZero)) (all-zero index (t .indexZero)) (t .coversThere)
-    (t .coversZero)
-
--- Tables of zeros that are long enough for m words and M nonterminals are so for fewer.
-pub tables-lent : (n N m M a b c d : ℕ) → n ≤ m → N ≤ M → spans m * M < a → 3 * (spans m * M) ≤ b → 2 * spans m + 2 * (m + 1) ≤ c → spans m * M ≤ d
-    → TablesLent n N (replicate a 0) (replicate b 0) (replicate c 0) (replicate d 0)
-tables-lent n N m M a b c d h k x y z w =
-    let more = spans-more n m h in
-    let cells : spans n * N ≤ spans m * M = mul-le-mul more k in
-    let ra = length-replicate {A = ℕ} a 0 in
-    let rb = length-replicate {A = ℕ} b 0 in
-    let rc = length-replicate {A = ℕ} c 0 in
-    let rd = length-replicate {A = ℕ} d 0 in
-    record {
-      marksZero = ap (λ (k : ℕ). replicate k 0) (sym ra);
-      indexZero = ap (λ (k : ℕ). replicate k 0) (sym rb);
-      setsZero = ap (λ (k : ℕ). replicate k 0) (sym rc);
-      coversZero = ap (λ (k : ℕ). replicate k 0) (sym rd);
-      marksThere = omega arith;
-      indexThere = omega arith;
-      setsThere = omega arith;
-      coversThere = omega arith;
-    }
+-- Tables of zeros for m words and M nonterminals are long enough for fewer: what a builder of such sizes hands on.
+pub sized-lent : {n room : ℕ} {card places chart : List ℕ} (m M : ℕ) → Sized m M card places n room chart
+    → Buildable card places n × RoomLent room chart
+    × TablesLent n (nonterminalCount card) (replicate (spans m * M + 1) 0) (replicate (4 * (spans m * M)) 0) (replicate (setCount m) 0)
+sized-lent {n} {card = card} m M s =
+    let more = spans-more n m (s .words) in
+    let few : spans n * nonterminalCount card ≤ spans m * M = mul-le-mul more (s .names) in
+    let marks = length-replicate {A = ℕ} (spans m * M + 1) 0 in
+    let cells = length-replicate {A = ℕ} (4 * (spans m * M)) 0 in
+    let sets = length-replicate {A = ℕ} (setCount m) 0 in (
+      s .buildable,
+      s .lent,
+      record {
+        marksZero = ap (λ (k : ℕ). replicate k 0) (sym marks);
+        cellsZero = ap (λ (k : ℕ). replicate k 0) (sym cells);
+        setsZero = ap (λ (k : ℕ). replicate k 0) (sym sets);
+        marksThere = omega (arith, few, marks);
+        cellsThere = omega (arith, few, cells);
+        setsThere = omega (arith, s .words, more, sets);
+      },
+    )
 
 pub closed-as : {N N′ after : ℕ} {old new : List ℕ} (room n : ℕ) (g : List Rule) (at : ℕ → ℕ → Bool) → N ≡ N′
     → Closed n N room (build room g at N n) old new after → Closed n N′ room (build room g at N′ n) old new after
@@ -112,13 +114,13 @@ module _ (card places : List ℕ) (n room : ℕ) (b : Buildable card places n) w
       go (some k) e = absurd (omega (arith, decided (some k) e c .0 k refl))
 
   pub within-room : {old new : List ℕ} {after : ℕ} → Closed n (nonterminalCount card) room result old new after → after ≤ room
-      → (c : List Record) × IsChart (grammarOf card) (Holds (wordTest places)) c × (after ≡ length c) × (length c ≤ room)
-      × (numbersCleared after new ≡ chartBytes c ++ drop (16 * length c) old)
+      → (c : List Record) × IsChart (grammarOf card) (Holds (wordTest places)) c × FirstSteps (grammarOf card) (Holds (wordTest places)) c
+      × (after ≡ length c) × (length c ≤ room) × (numbersCleared after new ≡ chartBytes c ++ drop (16 * length c) old)
   within-room {old} {new} {after} c h = go result refl
     where
       go : (s : Option (List Record)) → result ≡ s
-          → (c : List Record) × IsChart (grammarOf card) (Holds (wordTest places)) c × (after ≡ length c) × (length c ≤ room)
-          × (numbersCleared after new ≡ chartBytes c ++ drop (16 * length c) old)
+          → (c : List Record) × IsChart (grammarOf card) (Holds (wordTest places)) c × FirstSteps (grammarOf card) (Holds (wordTest places)) c
+          × (after ≡ length c) × (length c ≤ room) × (numbersCleared after new ≡ chartBytes c ++ drop (16 * length c) old)
       go none e = absurd (omega (arith, decided none e c .1 refl))
       go (some k) e =
           let one = card-one-sided card in
@@ -126,6 +128,7 @@ module _ (card places : List ℕ) (n room : ℕ) (b : Buildable card places n) w
           let (same, read, written) = c .charted k e in (
             k,
             build-chart room (nonterminalCount card) n (grammarOf card) (wordTest places) one (b .below) lefts e,
+            build-first room (nonterminalCount card) n (grammarOf card) (wordTest places) one (b .below) lefts e,
             same,
             build-room room (nonterminalCount card) n (grammarOf card) (wordTest places) one (b .below) lefts e,
             finished n (nonterminalCount card) old same read written,
@@ -143,5 +146,5 @@ module _ {card places old new : List ℕ} {n room after : ℕ} (b : Buildable ca
   pub built-within : {cleared : List ℕ} → after ≤ room → cleared ≡ numbersCleared after new
       → BuiltRoom card (wordTest places) n (Chart after) old cleared
   built-within h e =
-      let (k, chart, same, fits, written) = within-room card places n room b c h in
-      fitting card (wordTest places) n k (b .below) chart same (subst (λ (m : ℕ). length k ≤ m) own fits) (e ∙ written)
+      let (k, chart, firsts, same, fits, written) = within-room card places n room b c h in
+      fitting card (wordTest places) n k (b .below) chart firsts same (subst (λ (m : ℕ). length k ≤ m) own fits) (e ∙ written)

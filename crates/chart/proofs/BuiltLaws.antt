@@ -1,15 +1,15 @@
 -- What the builder's answer says, by its cases: a chart that fits counts every derivable item, and too many are more than the room holds.
 use Prim.Native.Nat.{ℕ, _*_, _≤_, _<_}
 use native.Mathlib.Omega.{arith}
-use mathlib.Core.Path.{_≡_, refl, sym, _∙_, ap}
+use mathlib.Core.Path.{_≡_, refl, _∙_, ap}
 use mathlib.Core.Bool.{Bool, true, false, cond}
 use mathlib.Core.List.{List, _++_}
-use lib.Dec.{ltb}
 use lib.ListN.{length, drop, replicate}
 use borrow.Author.Tests.{lt-ltb, le-ltb, ltb-true, ltb-false}
 use Rattle.grammar.specs.Input.{Holds, Below}
 use Rattle.grammar.specs.ItemList.{items}
 use Rattle.grammar.specs.Chart.{Record, IsChart}
+use Rattle.grammar.specs.Ways.{FirstSteps}
 use Rattle.layout.specs.Card.{grammarOf}
 use Rattle.layout.specs.Records.{chartBytes, capacity}
 use Rattle.layout.specs.Answers.{outnumber}
@@ -33,12 +33,13 @@ module _ (card : List ℕ) (at : ℕ → ℕ → Bool) (n : ℕ) {old new : List
       let over = lt-ltb (capacity (length old)) (length (items (grammarOf card) at n)) h in
       record { number = rw over; count = rw over; room = e }
 
-  pub fitting : {count : ℕ} (c : List Record) → Below (Holds at) n → IsChart (grammarOf card) (Holds at) c → count ≡ length c
-      → length c ≤ capacity (length old) → new ≡ chartBytes c ++ drop (16 * length c) old → BuiltRoom card at n (Chart count) old new
-  fitting c below chart same fits e =
+  pub fitting : {count : ℕ} (c : List Record) → Below (Holds at) n → IsChart (grammarOf card) (Holds at) c
+      → FirstSteps (grammarOf card) (Holds at) c → count ≡ length c → length c ≤ capacity (length old)
+      → new ≡ chartBytes c ++ drop (16 * length c) old → BuiltRoom card at n (Chart count) old new
+  fitting c below chart firsts same fits e =
       let all = chart-length (grammarOf card) at n below c chart in
       let within = le-ltb (capacity (length old)) (length (items (grammarOf card) at n)) (omega (arith, fits, all)) in
-      record { number = rw within; count = rw within (same ∙ all); room = (c, chart, e) }
+      record { number = rw within; count = rw within (same ∙ all); room = (c, chart, firsts, e) }
 
   pub built-more : BuiltRoom card at n TooMany old new → capacity (length old) < length (items (grammarOf card) at n)
   built-more b = ltb-true (capacity (length old)) (length (items (grammarOf card) at n)) (was-true _ (b .number))

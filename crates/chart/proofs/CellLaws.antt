@@ -1,84 +1,47 @@
--- What the loops of `cell` turn on. The bits of a set are walked from the lowest up; a production that lacks an element or has another
--- left side adds nothing, so those that a set leaves out may be passed over.
-use Prim.Native.Nat.{ℕ, zero, suc, _+_, _-_, _*_, _/_, _^_, _≤_, _<_}
+-- What the loops of `cell` turn on. A set has every production that adds to a cell, so its productions in turn add the cell's candidates;
+-- and a production that was passed has left no item out, so a later one that makes the same items may be left out.
+use Prim.Native.Nat.{ℕ, zero, suc, _+_, _-_, _*_, _/_, _≤_, _<_}
 use native.Mathlib.Nat.{mul-comm, mul-le-mul}
 use native.Mathlib.Omega.{arith}
 use native.Mathlib.Numerals.{add-one}
 use native.Mathlib.Decide.{decLt, ℕ-discrete}
 use mathlib.Core.Path.{_≡_, refl, sym, _∙_, ap, ap₂, subst}
-use mathlib.Core.Logic.{_⊎_, inl, inr}
+use mathlib.Core.Logic.{inl, inr}
 use mathlib.Core.Bool.{Bool, true, false}
-use mathlib.Core.List.{List, [], _∷_, _++_, append-nil}
+use mathlib.Core.List.{List, [], _∷_, _++_, append-nil, List·Memᴰ, List·Memᴰ·not-nil}
 use mathlib.Core.Option.{Option, none, some}
-use lib.Bits.{bitOr}
-use lib.Dec.{eqb}
 use lib.ListN.{length, getD, getElem?}
 use borrow.Author.Tests.{eq-eqb, ne-eqb}
 use Rattle.grammar.specs.Lists.{only}
 use Rattle.grammar.specs.Rewriting.{Rule, Lexical, Spine}
 use Rattle.grammar.specs.Items.{bare}
 use Rattle.grammar.specs.ItemList.{item}
-use Rattle.grammar.specs.Chart.{Record, recorded, nowhere}
-use Rattle.layout.specs.Card.{maxNonterminals}
+use Rattle.grammar.specs.Chart.{Record, recorded, nowhere, itemOf}
+use Rattle.layout.specs.Card.{maxNonterminals, maxProductions, productionCount, production, grammarOf}
 use Rattle.layout.specs.Line.{mostWords}
 use Rattle.card.specs.Productions.{ruleFrom}
 use Rattle.card.specs.declared.Production.{Production}
 use Rattle.card.specs.declared.Production.the-variants.{Word}
-use Rattle.chart_model.specs.Build.{flatUp, barePlaces, byRule, dependentFirst, turned, ruleAt, byWord, byRuleOver, byProduction, candidates}
-use Rattle.chart_model.proofs.BuildLaws.{turned-within, turned-twice}
-use Rattle.bits.specs.Bits.{bitOf, holdsBit, Least, Without}
+use Rattle.places.specs.Places.{wordTest}
+use Rattle.chart_model.specs.Build.{flatUp, ruleAt, byWord, acrossSplits, byRuleOver, byProduction, candidates}
+use Rattle.chart_model.proofs.BuildLaws.{flatUp-in}
+use Rattle.chart_model.proofs.Absent.{flatUp-none}
+use Rattle.bits.specs.Bits.{bitOf, holdsBit, Least}
+use Rattle.bits.proofs.BitLaws.{bitOf-below}
+use Rattle.bits.proofs.BitSets.{Walk, walk-has, walk-passed, walk-end}
 use Rattle.records.specs.Room.{chartIn, footNumber}
-use Rattle.records.specs.Index.{spans, Indexed}
-use Rattle.chart.specs.Tables.{FirstAbsent, SecondAbsent, leftIs, chosen, CellSet, oneOf, isWordOf, Splits, Turns}
-use Rattle.chart_model.proofs.Absent.{concatMap-none, flatUp-none, choice-none, action-none}
-use Rattle.steps.proofs.StepLaws.{flatUp-add}
-use Rattle.steps.proofs.StepCover.{Advancing, advance-skip}
+use Rattle.records.specs.Cells.{spans}
+use Rattle.records.specs.Cover.{HasItem}
+use Rattle.records.specs.Filling.{begunWith, Filling}
+use Rattle.records.specs.declared.record.OpenCell.{OpenCell}
 use Rattle.records.proofs.TableLaws.{spans-twice}
-use Rattle.bits.proofs.BitLaws.{bitOf-below, bitOf-zero, bitOf-or, bitOf-power, bitOf-other}
-use Rattle.bits.proofs.BitSets.{or-bits, without-has, without-lacks, bit-one, Walk, walk-has, walk-passed, walk-end}
-
--- A rule that adds nothing.
-pub absent-first : (b : List Record) (A i k j p : ℕ) (r : Rule) → FirstAbsent b i k r → byRule b A i k j p r ≡ []
-absent-first b A i k j p (Lexical A′ w) h = refl
-absent-first b A i k j p (Spine A′ a (B ∷ []) D []) h = choice-none (eqb A′ A) _ (rw h)
-absent-first b A i k j p (Spine A′ a (B ∷ []) D (C ∷ after)) h = refl
-absent-first b A i k j p (Spine A′ a (B ∷ C ∷ before) D after) h = refl
-absent-first b A i k j p (Spine A′ a [] D []) h = refl
-absent-first b A i k j p (Spine A′ a [] D (B ∷ [])) h =
-    choice-none (eqb A′ A) _ (concatMap-none _ (barePlaces b B k j) (λ x. action-none b a D i k A i j p x h))
-absent-first b A i k j p (Spine A′ a [] D (B ∷ C ∷ after)) h = refl
-
-pub absent-second : (b : List Record) (A i k j p : ℕ) (r : Rule) → SecondAbsent b k j r → byRule b A i k j p r ≡ []
-absent-second b A i k j p (Lexical A′ w) h = refl
-absent-second b A i k j p (Spine A′ a (B ∷ []) D []) h =
-    choice-none (eqb A′ A) _ (concatMap-none _ (barePlaces b B i k) (λ x. action-none b a D k j A i j p x h))
-absent-second b A i k j p (Spine A′ a (B ∷ []) D (C ∷ after)) h = refl
-absent-second b A i k j p (Spine A′ a (B ∷ C ∷ before) D after) h = refl
-absent-second b A i k j p (Spine A′ a [] D []) h = refl
-absent-second b A i k j p (Spine A′ a [] D (B ∷ [])) h = choice-none (eqb A′ A) _ (rw h)
-absent-second b A i k j p (Spine A′ a [] D (B ∷ C ∷ after)) h = refl
-
-pub not-own : (b : List Record) (A i k j p : ℕ) (r : Rule) → (leftIs A r → ⊥) → byRule b A i k j p r ≡ []
-not-own b A i k j p (Lexical A′ w) h = refl
-not-own b A i k j p (Spine A′ a (B ∷ []) D []) h = rw (ne-eqb A′ A h, byRule)
-not-own b A i k j p (Spine A′ a (B ∷ []) D (C ∷ after)) h = refl
-not-own b A i k j p (Spine A′ a (B ∷ C ∷ before) D after) h = refl
-not-own b A i k j p (Spine A′ a [] D []) h = refl
-not-own b A i k j p (Spine A′ a [] D (B ∷ [])) h = rw (ne-eqb A′ A h, byRule)
-not-own b A i k j p (Spine A′ a [] D (B ∷ C ∷ after)) h = refl
-
--- Things under other names.
-pub indexed-same : {n N : ℕ} {b c : List Record} {index : List ℕ} → c ≡ b → Indexed n N b index → Indexed n N c index
-indexed-same {n} {N} {index = index} e h = subst (λ b. Indexed n N b index) (sym e) h
-
-pub splits-same : {g : List Rule} {i j splits : ℕ} {b c : List Record} {both : List ℕ} → c ≡ b → Splits g b i j both splits
-    → Splits g c i j both splits
-splits-same {g} {i} {j} {splits} {both = both} e h = subst (λ b. Splits g b i j both splits) (sym e) h
-
-module _ {n N room A i j base : ℕ} {F : List Record → ℕ → List Record} {from to : ℕ} {old oldMarks oldCovers new marks covers : List ℕ}
-    {count y after : ℕ} (l : Advancing n N room A i j base F from to old oldMarks oldCovers count new marks covers y after) where
-  advance-at : {y′ : ℕ} → y′ ≡ y → Advancing n N room A i j base F from to old oldMarks oldCovers count new marks covers y′ after
-  advance-at e = rw e l
+use Rattle.sets.proofs.CardRules.{rule-there}
+use Rattle.sets.proofs.LikeLaws.{served-idle}
+use Rattle.steps.proofs.StepLaws.{flatUp-add, loop-kept}
+use Rattle.steps.proofs.StepCover.{Known, known-none, Advancing, advance-has}
+use Rattle.sets.specs.Spans.{SplitsOf}
+use Rattle.sets.specs.Like.{LikeBefore}
+use Rattle.chart.specs.Cell.{splitsAdd, chosen, CellGiven, Turn, CellSet, SetFor, oneOf, isWordOf}
 
 -- Places at which two functions agree; places past the last at which there is anything.
 flatUp-same : {A : Type 0} (f g : ℕ → List A) (from m : ℕ) → ((k : ℕ) → from ≤ k → k < from + m → f k ≡ g k)
@@ -95,84 +58,36 @@ flatUp-end f from a m l h =
     ∙ ap (λ r. flatUp f from a ++ r) (flatUp-none f (from + a) (m - a) (λ k s t. h k s (omega arith)))
     ∙ append-nil (flatUp f from a)
 
--- Turns. Those of a rule are turns of splits of its span; and at the others the rule adds nothing.
-module _ {g : List Rule} {b : List Record} {both : List ℕ} {splits p sum turns : ℕ} {back : Bool} (i j : ℕ)
-    (s : Splits g b i j both splits) (t : Turns both splits p back sum turns) (e : sum ≡ i + j) where
-  pub turn-within : (m : ℕ) → bitOf m turns ≡ 1 → (i < m) × (m < j)
-  turn-within m o =
-      let (k, x, y, z) = t .only m o in
-      let (u, v) = s .inside k x in
-      subst (λ (x : ℕ). (i < x) × (x < j)) (sym (z ∙ ap (λ (x : ℕ). turned back x k) e)) (turned-within back i j k u v)
+-- What a rule adds to a cell of one word, and of more, as the code finds it.
+module _ (b : List Record) (A i : ℕ) where
+  word-same : (places : List ℕ) (p : ℕ) (r : Rule) → byWord (oneOf (getD places i 0)) A i p r ≡ byWord (wordTest places) A i p r
+  word-same places p (Lexical A′ w) = refl
+  word-same places p (Spine A′ a before D after) = refl
 
-  pub turn-idle : (A : ℕ) (r : Rule) → getElem? g p ≡ some r → back ≡ dependentFirst r → (m : ℕ) → i < m → m < j → bitOf m turns ≡ 0
-      → ruleAt b A i j p r m ≡ []
-  turn-idle A r stands first m im mj z =
-      let k = turned back (i + j) m in
-      let (u, v) = turned-within back i j m im mj in
-      ap (λ (x : Bool). byRule b A i (turned x (i + j) m) j p r) (sym first)
-      ∙ elim (s .absent p r k stands u v (missing k (turned-twice back (i + j) m (omega arith)) (ℕ-discrete (bitOf k splits) 0))) [
-        | inl x ↦ absent-first b A i k j p r x
-        | inr y ↦ absent-second b A i k j p r y
-      ]
-    where
-      missing : (k : ℕ) → turned back (i + j) k ≡ m → Dec (bitOf k splits ≡ 0) → (bitOf k splits ≡ 0) ⊎ (bitOf p (getD both k 0) ≡ 0)
-      missing k q (yes x) = inl x
-      missing k q (no d) =
-          inr (t .has k (bit-one k splits d) (ap (λ (x : ℕ). bitOf (turned back x k) turns) e ∙ (ap (λ (x : ℕ). bitOf x turns) q ∙ z)))
+  pub over-word : (places : List ℕ) (j k p : ℕ) (r : Rule) → k ≡ i → j - i ≡ 1
+      → byWord (oneOf (getD places k 0)) A i p r ≡ byRuleOver (wordTest places) b A i (j - i) p r
+  over-word places j k p r q e = rw (e, q) (word-same places p r)
 
-pub turned-small : (back : Bool) (sum k : ℕ) → k ≤ sum → turned back sum k ≤ sum
-turned-small true sum k h = omega arith
-turned-small false sum k h = h
+  module _ (at : ℕ → ℕ → Bool) (j p : ℕ) (r : Rule) (l : i < j) where
+    pub over-splits : (j - i ≡ 1 → ⊥) → acrossSplits b A i j p r ≡ byRuleOver at b A i (j - i) p r
+    over-splits d = go (j - i) refl
+      where
+        go : (len : ℕ) → j - i ≡ len → acrossSplits b A i j p r ≡ byRuleOver at b A i (j - i) p r
+        go zero e = absurd (omega arith)
+        go (suc zero) e = absurd (d e)
+        go (suc (suc len)) e =
+            let s : i + suc (suc len) ≡ j = omega arith in
+            subst (λ (x : ℕ). acrossSplits b A i j p r ≡ byRuleOver at b A i x p r) (sym e)
+            (subst (λ (j′ : ℕ). acrossSplits b A i j′ p r ≡ byRuleOver at b A i (suc (suc len)) p r) s refl)
 
--- The turns of the splits that were looked at.
-pub record TurnsSoFar (both : List ℕ) (splits p : ℕ) (back : Bool) (sum rest turns : ℕ) : Type 0 where
-  pub left : (k : ℕ) → bitOf k rest ≡ 1 → bitOf k splits ≡ 1
-  pub has : (k : ℕ) → bitOf k splits ≡ 1 → bitOf k rest ≡ 0 → bitOf (turned back sum k) turns ≡ 0 → bitOf p (getD both k 0) ≡ 0
-  pub only : (m : ℕ) → bitOf m turns ≡ 1 → (k : ℕ) × (bitOf k splits ≡ 1) × (bitOf p (getD both k 0) ≡ 1) × (m ≡ turned back sum k)
-
-pub turns-none : (both : List ℕ) (splits p : ℕ) (back : Bool) (sum : ℕ) → TurnsSoFar both splits p back sum splits 0
-turns-none both splits p back sum =
-    record {
-      left = λ k o. o;
-      has = λ k o z y. absurd (omega arith);
-      only = λ m o. absurd (omega (arith, bitOf-zero m));
-    }
-
-module _ {both : List ℕ} {splits p sum rest turns k rest′ turns′ : ℕ} {back : Bool} (t : TurnsSoFar both splits p back sum rest turns)
-    (w : Without rest k rest′) where
-  pub turns-more : bitOf k splits ≡ 1 → bitOf p (getD both k 0) ≡ 1 → turns′ ≡ bitOr turns (2 ^ turned back sum k)
-      → TurnsSoFar both splits p back sum rest′ turns′
-  turns-more there one e =
-      record {
-        left = λ q o. t .left q (without-has w q o);
-        has = λ q o z y.
-            let (u, v) = or-bits (turned back sum q) turns (2 ^ turned back sum k) (sym (ap (bitOf (turned back sum q)) e) ∙ y) in
-            elim (without-lacks w q z) [
-              | inl s ↦ absurd (omega (arith, bitOf-power (turned back sum k), v, ap (λ (x : ℕ). bitOf (turned back sum x) (2 ^ turned back sum k)) s))
-              | inr s ↦ t .has q o s u
-            ];
-        only = λ m o. elim (ℕ-discrete m (turned back sum k)) [
-          | yes s ↦ (k, there, one, s)
-          | no d ↦
-              t .only m (omega (arith, ap (bitOf m) e, bitOf-or m turns (2 ^ turned back sum k), bitOf-other m (turned back sum k) d))
-        ];
-      }
-
-  pub turns-same : bitOf p (getD both k 0) ≡ 0 → turns′ ≡ turns → TurnsSoFar both splits p back sum rest′ turns′
-  turns-same zero-there e =
-      rw e
-      record {
-        left = λ q o. t .left q (without-has w q o);
-        has = λ q o z y. elim (without-lacks w q z) [
-          | inl s ↦ ap (λ (x : ℕ). bitOf p (getD both x 0)) s ∙ zero-there
-          | inr s ↦ t .has q o s y
-        ];
-        only = t .only;
-      }
-
-pub turns-end : {both : List ℕ} {splits p sum rest turns : ℕ} {back : Bool} → TurnsSoFar both splits p back sum rest turns → rest ≡ 0
-    → Turns both splits p back sum turns
-turns-end t z = record { has = λ k o. t .has k o (ap (bitOf k) z ∙ bitOf-zero k); only = t .only }
+    -- At the splits of one word it adds nothing.
+    splits-in : {e : Record} → List·Memᴰ e (acrossSplits b A i j p r) → List·Memᴰ e (byRuleOver at b A i (j - i) p r)
+    splits-in {e} m = elim (ℕ-discrete (j - i) 1) [
+      | yes one ↦
+          let few : j - suc i ≡ 0 = omega arith in
+          absurd (List·Memᴰ·not-nil (rw few at m))
+      | no d ↦ subst (List·Memᴰ e) (over-splits d) m
+    ]
 
 -- What a set chooses: the rule of p where its bit is set, and nothing where it is not.
 module _ (set : ℕ) (g : List Rule) (at : ℕ → ℕ → Bool) (b : List Record) (A i len : ℕ) where
@@ -202,21 +117,6 @@ bit-within {g} p cell one = elim (decLt p (length g)) [
   | no h ↦ absurd (omega (arith, cell .noMore p (omega arith)))
 ]
 
--- Places at which a loop has nothing to add.
-module _ {n N room A i j base : ℕ} {F : List Record → ℕ → List Record} {from to : ℕ} {old oldMarks oldCovers new marks covers : List ℕ}
-    {count y after : ℕ} (l : Advancing n N room A i j base F from to old oldMarks oldCovers count new marks covers y after) where
-  advance-pass : (s : ℕ) → y + s ≤ to → ((q : ℕ) → y ≤ q → q < y + s → F (chartIn old base) q ≡ [])
-      → Advancing n N room A i j base F from to old oldMarks oldCovers count new marks covers (y + s) after
-  advance-pass zero h empty = advance-at l (omega arith)
-  advance-pass (suc s) h empty =
-      advance-at
-      (advance-skip (advance-pass s (omega arith) (λ q a b. empty q a (omega arith))) (omega arith)
-      (empty (y + s) (omega arith) (omega arith))) (omega arith)
-
-  pub advance-to : (p : ℕ) → y ≤ p → p ≤ to → ((q : ℕ) → y ≤ q → q < p → F (chartIn old base) q ≡ [])
-      → Advancing n N room A i j base F from to old oldMarks oldCovers count new marks covers p after
-  advance-to p u v empty = advance-at (advance-pass (p - y) (omega arith) (λ q a b. empty q a (omega arith))) (omega arith)
-
 -- The productions of a set that has all that add to a cell add its candidates.
 module _ (g : List Rule) {at : ℕ → ℕ → Bool} {b : List Record} {A i len set : ℕ} (cell : CellSet g at b A i len set) where
   place-same : (p : ℕ) → chosen set g at b A i len p ≡ byProduction g at b A i len p
@@ -231,11 +131,59 @@ module _ (g : List Rule) {at : ℕ → ℕ → Bool} {b : List Record} {A i len 
       none-there none f = refl
       none-there (some r) f = f r refl
 
+  rule-chosen : (p : ℕ) {r : Rule} → getElem? g p ≡ some r → byRuleOver at b A i len p r ≡ chosen set g at b A i len p
+  rule-chosen p there = sym (place-same p ∙ rw (there, byProduction))
+
   pub all-chosen : (all : ℕ) → length g ≤ all → flatUp (chosen set g at b A i len) 0 all ≡ candidates g at b A i len
   all-chosen all h =
       flatUp-end (chosen set g at b A i len) 0 (length g) all h
       (λ p l u. chosen-lacks set g at b A i len p (λ e. absurd (omega (arith, cell .noMore p (omega arith)))))
       ∙ flatUp-same (chosen set g at b A i len) (byProduction g at b A i len) 0 (length g) (λ p l u. place-same p)
+
+-- The candidates of the cell, production by production.
+abbrev pub byNumber : List ℕ → List ℕ → OpenCell → ℕ → List Record → ℕ → List Record
+byNumber card places cell set b =
+    chosen set (grammarOf card) (wordTest places) b (cell .left) (cell .from) (cell .to - cell .from)
+
+-- A loop that adds leaves the chart with which the cell was begun, and so what is given of it.
+pub given-kept : {card sets : List ℕ} {cell : OpenCell} {F : List Record → ℕ → List Record} {from to : ℕ}
+    {old oldMarks oldCells mid midMarks cells : List ℕ} {count y total : ℕ}
+    → Advancing cell F from to old oldMarks oldCells count mid midMarks cells y total → Filling cell old oldMarks oldCells count
+    → CellGiven card sets cell old → CellGiven card sets cell mid
+given-kept {card} {sets} {cell} {old = old} {mid = mid} l f given =
+    let kept : begunWith cell mid ≡ begunWith cell old = loop-kept (l .looped) (cell .base) (f .begun) in
+    record { accepted = given .accepted; names = given .names; long = given .long; splits = rw kept (given .splits) }
+
+-- A loop over them is at p: every candidate of a production before p has its item among the records.
+pub past-known : (card places : List ℕ) {cell : OpenCell} {set : ℕ} {old oldMarks oldCells mid midMarks cells : List ℕ} {count p total : ℕ}
+    → Filling cell old oldMarks oldCells count → SetFor card places cell old set → p < productionCount card
+    → Advancing cell (byNumber card places cell set) 0 maxProductions old oldMarks oldCells count mid midMarks cells p total
+    → (q : ℕ) (e : Record) → q < p → List·Memᴰ e (splitsAdd card cell q (begunWith cell mid)) → HasItem (chartIn mid total) (itemOf e)
+past-known card places {cell} {set} {old} f has counted l q e h m =
+    let b = begunWith cell old in
+    let here = rw (loop-kept (l .looped) (cell .base) (f .begun)) at m in
+    let there = splits-in b (cell .left) (cell .from) (wordTest places) (cell .to) q (production card q) (f .inside .1) here in
+    advance-has {F = byNumber card places cell set} l q (omega arith) h e
+    (subst (List·Memᴰ e)
+    (rule-chosen (grammarOf card) has q (rule-there card (productionCount card) q (omega arith))) there)
+
+-- What production p adds at a split. Where the split is left out all its items are there already: it has no candidates, or a like production
+-- before it has made them.
+abbrev pub atSplit : List ℕ → OpenCell → ℕ → List Record → ℕ → List Record
+atSplit card cell p b = ruleAt b (cell .left) (cell .from) (cell .to) p (production card p)
+
+pub left-out : (card : List ℕ) {sets chart : List ℕ} {cell : OpenCell} {like served count p : ℕ} → CellGiven card sets cell chart
+    → Turn card cell chart count p → LikeBefore card p like → SplitsOf sets p like served → (k : ℕ) → cell .from < k → k < cell .to
+    → bitOf k served ≡ 0 → Known (chartIn chart count) (atSplit card cell p (begunWith cell chart) k)
+left-out card {chart = chart} {cell} {count = count} {p} given turn before of k ik kj z =
+    elim (served-idle card (cell .left) p (turn .counted) (given .splits) of before k ik kj z) [
+      | inl e ↦ known-none (chartIn chart count) e
+      | inr (q, l, covers) ↦ λ r m.
+          let (made, n, is) = covers r m in
+          subst (HasItem (chartIn chart count)) is
+          (turn .past q made l (flatUp-in (atSplit card cell q (begunWith cell chart)) (suc (cell .from)) (cell .to - suc (cell .from)) k ik
+          (omega arith) n))
+    ]
 
 -- Word productions, of A or another nonterminal, for a set of words.
 pub other-left : (r : Production) (left word A words : ℕ) → r ≡ Word left word → (left ≡ A → ⊥) → false ≡ isWordOf A words (ruleFrom r)

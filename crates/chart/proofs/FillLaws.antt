@@ -1,18 +1,17 @@
--- What the builder's tables say of a chart that one cell was added to: its marks are gone, its range is known, its productions are
--- noted, and what the tables say of the other cells still holds, for a cell adds records of its own alone.
+-- What the room and the table of cells say of a chart that one cell was added to: its marks are gone, its range is known, and what the
+-- table says of the other cells still holds, for a cell adds records of its own alone.
 use Prim.Native.Nat.{ℕ, zero, suc, _+_, _-_, _*_, _/_, _%_, _≤_, _<_}
 use native.Mathlib.Nat.{le-refl}
 use native.Mathlib.Decide.{ℕ-discrete, decLe}
 use native.Mathlib.Omega.{arith}
-use mathlib.Core.Path.{_≡_, refl, sym, _∙_, ap, subst, subst₂, subst₃}
+use mathlib.Core.Path.{_≡_, refl, sym, _∙_, ap, subst, subst₃}
 use mathlib.Core.Logic.{_⊎_, inl, inr}
 use mathlib.Core.Bool.{Bool, true, false, cond}
-use mathlib.Core.List.{List, [], _∷_, map}
+use mathlib.Core.List.{List, [], map}
 use mathlib.Core.Option.{Option, none, some}
-use lib.ListN.{length, take, getD, set, getElem?, replicate, length-set}
-use lib.Seq.{getD-set-same, getD-set-other}
+use lib.ListN.{length, take, getD, replicate}
 use borrow.Author.Tests.{le-leb, lt-leb}
-use Rattle.grammar.specs.Rewriting.{Rule, Lexical, Spine}
+use Rattle.grammar.specs.Rewriting.{Rule}
 use Rattle.grammar.specs.Items.{Foot}
 use Rattle.grammar.specs.ItemList.{item, isBare, among}
 use Rattle.grammar.specs.Chart.{Record, itemOf}
@@ -22,19 +21,25 @@ use Rattle.layout.specs.Card.{maxNonterminals}
 use Rattle.layout.specs.Line.{mostWords}
 use Rattle.chart_model.specs.Build.{places, barePlaces}
 use Rattle.chart_model.proofs.FillModel.{IsCell, Grown, grown-length, places-other, bares-other, bareAt, places-own, bares-own, foot-place, fresh-among, not-so}
-use Rattle.records.specs.declared.index.Range.{Range}
-use Rattle.bits.specs.Bits.{bitOf, holdsBit}
+use Rattle.bits.specs.Bits.{holdsBit}
+use Rattle.bits.proofs.BitLaws.{bitOf-zero, zero-at}
+use Rattle.records.specs.declared.cells.Range.{Range}
+use Rattle.records.specs.declared.record.OpenCell.{OpenCell}
 use Rattle.records.specs.Room.{chartIn, stateOf, footThere, FootFits, footNumber, numberedChart, numberThere, markOf, Marked, Working}
-use Rattle.records.specs.Index.{spans, spanAt, cellAt, rangeIn, bareIn, Indexed}
-use Rattle.chart.specs.Tables.{FirstAbsent, SecondAbsent, Rows, Sorted, bareFrom, Finished}
-use Rattle.chart.specs.Fill.{Classified, Noted, Between}
+use Rattle.records.specs.Cells.{spans, cellAt, rangeIn, withRange, bareIn, SpanFits, Indexed}
+use Rattle.records.specs.Filling.{Filling}
 use Rattle.records.proofs.RoomLaws.{chart-length, foot-at, number-there}
-use Rattle.records.proofs.TableLaws.{span-below, span-same, cell-same}
-use Rattle.records.proofs.CoverLaws.{covered-start}
+use Rattle.records.proofs.TableLaws.{cell-below, cell-same}
+use Rattle.records.proofs.CellsLaws.{range-length, range-same, range-other}
+use Rattle.records.proofs.CoverLaws.{start-covering, covered-start}
+use Rattle.sets.specs.Classes.{Classified}
+use Rattle.sets.specs.Spans.{Sorted}
+use Rattle.chart.specs.Cell.{bareFrom, Finished}
+use Rattle.chart.specs.Fill.{Between, Fillable}
 
 -- A cell without records may be begun.
-pub fresh-working : {g : List Rule} {n N room count : ℕ} {chart marks index covers sets : List ℕ} (A i j : ℕ)
-    → Between g n N room chart marks index covers sets count → places (chartIn chart count) A i j ≡ []
+pub fresh-working : {g : List Rule} {n N room count : ℕ} {chart marks cells sets : List ℕ} (A i j : ℕ)
+    → Between g n N room chart marks cells sets count → places (chartIn chart count) A i j ≡ []
     → Working n N room A i j chart marks count
 fresh-working {count = count} {chart = chart} A i j b empty =
     record {
@@ -49,6 +54,30 @@ fresh-working {count = count} {chart = chart} A i j b empty =
       feet = b .feet;
     }
 
+-- So a cell that may be filled can be; and its numbers stand in the table of cells.
+module _ {card places chart marks cells sets : List ℕ} {cell : OpenCell} {set : ℕ} (f : Fillable card places cell chart marks cells sets set) where
+  pub fill-begin : Filling cell chart marks cells (cell .base)
+  fill-begin =
+      record {
+        works = fresh-working (cell .left) (cell .from) (cell .to) (f .between) (f .fresh);
+        begun = le-refl (cell .base);
+        inside = f .inside;
+        numbered = f .numbered;
+        indexed = f .between .indexed;
+        covering = start-covering (cell .left) (cell .from) (cell .to) (f .between .covered);
+      }
+
+  pub fill-there : (after : List ℕ) → length after ≡ length cells → 4 * cell .number + 4 ≤ length after
+  fill-there after e =
+      let (a, b, c) = f .inside in
+      omega (
+        arith,
+        e,
+        f .numbered,
+        f .between .indexed .long,
+        cell-below (cell .words) (cell .symbols) (cell .left) (cell .from) (cell .to) a b c,
+      )
+
 -- The model's state at a count within the room, and past it.
 pub state-some : {s : Option (List Record)} (room after : ℕ) (new : List ℕ) → stateOf room new after ≡ s → after ≤ room
     → s ≡ some (chartIn new after)
@@ -56,57 +85,6 @@ state-some room after new e l = sym e ∙ rw le-leb
 
 pub state-over : {s : Option (List Record)} (room after : ℕ) (new : List ℕ) → stateOf room new after ≡ s → room < after → s ≡ none
 state-over room after new e l = sym e ∙ rw lt-leb
-
--- Every number in a list is at most m, also after a store.
-pub within-set : (l : List ℕ) (i v m : ℕ) → ((k : ℕ) → getD l k 0 ≤ m) → v ≤ m → (k : ℕ) → getD (set l i v) k 0 ≤ m
-within-set [] i v m h a k = h k
-within-set (x ∷ l) zero v m h a zero = a
-within-set (x ∷ l) zero v m h a (suc k) = h (suc k)
-within-set (x ∷ l) (suc i) v m h a zero = h 0
-within-set (x ∷ l) (suc i) v m h a (suc k) = within-set l i v m (λ k. h (suc k)) a k
-
--- A cell's numbers put into the index.
-abbrev pub entered : List ℕ → ℕ → Range → List ℕ
-entered index cell r = set (set (set index (3 * cell) (r .from)) (3 * cell + 1) (r .to)) (3 * cell + 2) (r .bare)
-
-entered-here : (index : List ℕ) (cell : ℕ) (r : Range) → 3 * cell + 3 ≤ length index → rangeIn (entered index cell r) cell ≡ r
-entered-here index cell r l =
-    let l₁ = set index (3 * cell) (r .from) in
-    let l₂ = set l₁ (3 * cell + 1) (r .to) in
-    let a : getD (set l₂ (3 * cell + 2) (r .bare)) (3 * cell) 0 ≡ r .from =
-    getD-set-other l₂ (3 * cell + 2) (3 * cell) (r .bare) 0 (omega arith)
-    ∙ (getD-set-other l₁ (3 * cell + 1) (3 * cell) (r .to) 0 (omega arith)
-    ∙ getD-set-same index (3 * cell) (r .from) 0 (omega arith)) in
-    let b : getD (set l₂ (3 * cell + 2) (r .bare)) (3 * cell + 1) 0 ≡ r .to =
-    getD-set-other l₂ (3 * cell + 2) (3 * cell + 1) (r .bare) 0 (omega arith)
-    ∙ getD-set-same l₁ (3 * cell + 1) (r .to) 0 (simp length-set (omega arith)) in
-    let d : getD (set l₂ (3 * cell + 2) (r .bare)) (3 * cell + 2) 0 ≡ r .bare =
-    getD-set-same l₂ (3 * cell + 2) (r .bare) 0 (simp length-set (omega arith)) in
-    λ k. record { from = a k; to = b k; bare = d k }
-
-entered-at : (index : List ℕ) (cell x : ℕ) (r : Range) → (x ≡ 3 * cell → ⊥) → (x ≡ 3 * cell + 1 → ⊥) → (x ≡ 3 * cell + 2 → ⊥)
-    → getD (entered index cell r) x 0 ≡ getD index x 0
-entered-at index cell x r u v w =
-    let l₁ = set index (3 * cell) (r .from) in
-    let l₂ = set l₁ (3 * cell + 1) (r .to) in
-    getD-set-other l₂ (3 * cell + 2) x (r .bare) 0 w
-    ∙ (getD-set-other l₁ (3 * cell + 1) x (r .to) 0 v ∙ getD-set-other index (3 * cell) x (r .from) 0 u)
-
-entered-other : (index : List ℕ) (cell cell′ : ℕ) (r : Range) → (cell′ ≡ cell → ⊥) → rangeIn (entered index cell r) cell′ ≡ rangeIn index cell′
-entered-other index cell cell′ r d =
-    λ k. record {
-      from = entered-at index cell (3 * cell′) r (omega arith) (omega arith) (omega arith) k;
-      to = entered-at index cell (3 * cell′ + 1) r (omega arith) (omega arith) (omega arith) k;
-      bare = entered-at index cell (3 * cell′ + 2) r (omega arith) (omega arith) (omega arith) k;
-    }
-
-entered-within : (index : List ℕ) (cell m : ℕ) (r : Range) → ((k : ℕ) → getD index k 0 ≤ m) → r .from ≤ m → r .to ≤ m → r .bare ≤ m
-    → (k : ℕ) → getD (entered index cell r) k 0 ≤ m
-entered-within index cell m r h a b d k =
-    let l₁ = set index (3 * cell) (r .from) in
-    let l₂ = set l₁ (3 * cell + 1) (r .to) in
-    within-set l₂ (3 * cell + 2) (r .bare) m
-    (within-set l₁ (3 * cell + 1) (r .to) m (within-set index (3 * cell) (r .from) m h a) b) d k
 
 -- The last bare record's place, read from the bytes; and it is within what was counted.
 pub bareFrom-at : (chart : List ℕ) (count base m : ℕ) → base + m ≤ count → bareFrom chart base m ≡ bareAt (chartIn chart count) base m
@@ -122,72 +100,62 @@ bareFrom-le chart base (suc m) = one (isBare (footThere chart (base + m))) (bare
     one true h = omega arith
     one false h = omega arith
 
--- The index of a chart that one cell was added to.
+-- The table of cells for a chart that one cell was added to, once its range is entered.
 abbrev Says : List Record → ℕ → ℕ → ℕ → Range → Type 0
 Says b A i j r = (places b A i j ≡ counted (r .from) (r .to - r .from)) × (barePlaces b A i j ≡ bareIn (r .bare))
 
-module _ (n N A i j : ℕ) (inN : A < N) (ij : i < j) (jn : j ≤ n) {c b : List Record} (fresh : places c A i j ≡ [])
-    (grown : Grown (IsCell A i j) c b) where
-  indexed-here : (index : List ℕ) (r : Range) → 3 * cellAt N A i j + 3 ≤ length index → r .from ≡ length c → r .to ≡ length b
-      → r .bare ≡ bareAt b (length c) (length b - length c)
-      → Says b A i j (rangeIn (entered index (cellAt N A i j) r) (cellAt N A i j))
-  indexed-here index r l from to last =
+module _ (n N A i j : ℕ) (inside : SpanFits n N A i j) {c b : List Record} (fresh : places c A i j ≡ []) (grown : Grown (IsCell A i j) c b)
+    (cells : List ℕ) (r : Range) (there : 4 * cellAt N A i j + 4 ≤ length cells) (from : r .from ≡ length c) (to : r .to ≡ length b)
+    (last : r .bare ≡ bareAt b (length c) (length b - length c)) (small : r .bare ≤ length b) (old : Indexed n N c cells) where
+  abbrev new : List ℕ
+  new = withRange cells (cellAt N A i j) r
+
+  says-here : Says b A i j (rangeIn new (cellAt N A i j))
+  says-here =
       let long = grown-length grown in
       let size : length b ≡ length c + (length b - length c) = omega arith in
-      subst (Says b A i j) (sym (entered-here index (cellAt N A i j) r l)) (
+      subst (Says b A i j) (sym (range-same cells (cellAt N A i j) r there)) (
         places-own A i j fresh grown (length b - length c) size ∙ rw (from, to),
         bares-own A i j bareIn refl (λ x. refl) fresh grown (length b - length c) size ∙ rw last,
       )
 
-  indexed-other : (index : List ℕ) (r : Range) → Indexed n N c index → (A′ i′ j′ : ℕ) → A′ < N → i′ < j′ → j′ ≤ n
-      → (cellAt N A i j ≡ cellAt N A′ i′ j′ → ⊥) → Says b A′ i′ j′ (rangeIn (entered index (cellAt N A i j) r) (cellAt N A′ i′ j′))
-  indexed-other index r old A′ i′ j′ x y z d =
-      let out : IsCell A i j A′ i′ j′ → ⊥ = λ (p, q, s). d (rw (p, q, s)) in
-      subst (Says b A′ i′ j′) (sym (entered-other index (cellAt N A i j) (cellAt N A′ i′ j′) r (λ e. d (sym e))))
-      (places-other A′ i′ j′ out grown ∙ old .ranges A′ i′ j′ x y z, bares-other A′ i′ j′ out grown ∙ old .bares A′ i′ j′ x y z)
+  says : (A′ i′ j′ : ℕ) → A′ < N → i′ < j′ → j′ ≤ n → Says b A′ i′ j′ (rangeIn new (cellAt N A′ i′ j′))
+  says A′ i′ j′ x y z = elim (ℕ-discrete (cellAt N A i j) (cellAt N A′ i′ j′)) [
+    | yes e ↦ let (p, q, s) = cell-same n N A i j A′ i′ j′ (inside .0) (inside .1) (inside .2) x y z e in
+        subst₃ (λ (A′ i′ j′ : ℕ). Says b A′ i′ j′ (rangeIn new (cellAt N A′ i′ j′))) p q s says-here
+    | no d ↦ let out : IsCell A i j A′ i′ j′ → ⊥ = λ (p, q, s). d (rw (p, q, s)) in
+        subst (Says b A′ i′ j′) (sym (range-other cells (cellAt N A i j) r (cellAt N A′ i′ j′) (λ e. d (sym e))))
+        (places-other A′ i′ j′ out grown ∙ old .ranges A′ i′ j′ x y z, bares-other A′ i′ j′ out grown ∙ old .bares A′ i′ j′ x y z)
+  ]
 
-  pub indexed-more : (index : List ℕ) (r : Range) → 3 * cellAt N A i j + 3 ≤ length index → r .from ≡ length c → r .to ≡ length b
-      → r .bare ≡ bareAt b (length c) (length b - length c) → r .bare ≤ length b → Indexed n N c index
-      → Indexed n N b (entered index (cellAt N A i j) r)
-  indexed-more index r l from to last small old =
-      let long = grown-length grown in
+  within : (at : ℕ) → (rangeIn new at .to ≤ length b) × (rangeIn new at .bare ≤ length b)
+  within at = elim (ℕ-discrete at (cellAt N A i j)) [
+    | yes e ↦ subst (λ (x : ℕ). (rangeIn new x .to ≤ length b) × (rangeIn new x .bare ≤ length b)) (sym e)
+        (subst (λ (x : Range). (x .to ≤ length b) × (x .bare ≤ length b)) (sym (range-same cells (cellAt N A i j) r there)) (omega arith, small))
+    | no d ↦ subst (λ (x : Range). (x .to ≤ length b) × (x .bare ≤ length b)) (sym (range-other cells (cellAt N A i j) r at d)) (
+      omega (arith, old .toWithin at, grown-length grown),
+      omega (arith, old .bareWithin at, grown-length grown),
+    )
+  ]
+
+  pub indexed-more : Indexed n N b new
+  indexed-more =
       record {
-        long = simp length-set (old .long);
-        within = entered-within index (cellAt N A i j) (length b) r (λ k. omega (arith, old .within k)) (omega arith) (omega arith) small;
+        long = omega (arith, old .long, range-length cells (cellAt N A i j) r);
+        toWithin = λ at. within at .0;
+        bareWithin = λ at. within at .1;
         ranges = λ A′ i′ j′ x y z. says A′ i′ j′ x y z .0;
         bares = λ A′ i′ j′ x y z. says A′ i′ j′ x y z .1;
       }
-    where
-      says : (A′ i′ j′ : ℕ) → A′ < N → i′ < j′ → j′ ≤ n
-          → Says b A′ i′ j′ (rangeIn (entered index (cellAt N A i j) r) (cellAt N A′ i′ j′))
-      says A′ i′ j′ x y z = elim (ℕ-discrete (cellAt N A i j) (cellAt N A′ i′ j′)) [
-        | yes e ↦ let (p, q, s) = cell-same n N A i j A′ i′ j′ inN ij jn x y z e in
-            subst₃ (λ (A′ i′ j′ : ℕ). Says b A′ i′ j′ (rangeIn (entered index (cellAt N A i j) r) (cellAt N A′ i′ j′)))
-            p q s (indexed-here index r l from to last)
-        | no d ↦ indexed-other index r old A′ i′ j′ x y z d
-      ]
 
--- Before the first cell: no records, and marks and an index of zeros.
-first-empty : (i k : ℕ) (r : Rule) → FirstAbsent [] i k r
-first-empty i k (Lexical A w) = tt
-first-empty i k (Spine A a [] D after) = refl
-first-empty i k (Spine A a (B ∷ before) D after) = refl
+-- Before the first cell: no records, and marks and a table of zeros.
+all-zero : (l : List ℕ) → l ≡ replicate (length l) 0 → (k : ℕ) → getD l k 0 ≡ 0
+all-zero l e k = ap (λ (m : List ℕ). getD m k 0) e ∙ zero-at (length l) k
 
-second-empty : (k j : ℕ) (r : Rule) → SecondAbsent [] k j r
-second-empty k j (Lexical A w) = tt
-second-empty k j (Spine A a [] D []) = tt
-second-empty k j (Spine A a [] D (B ∷ after)) = refl
-second-empty k j (Spine A a (B ∷ before) D after) = refl
-
-pub bit-zero : (b : ℕ) → bitOf b 0 ≡ 0
-bit-zero zero = refl
-bit-zero (suc b) = bit-zero b
-
-pub start-between : {g : List Rule} {n N room : ℕ} {chart marks index covers sets : List ℕ} → n ≤ mostWords → N ≤ maxNonterminals → room ≤ 65535
-    → 16 * room ≤ length chart → spans n * N < length marks → 3 * (spans n * N) ≤ length index → Rows n sets
-    → ((k : ℕ) → getD marks k 0 ≡ 0) → ((k : ℕ) → getD index k 0 ≡ 0) → spans n * N ≤ length covers
-    → covers ≡ replicate (length covers) 0 → Between g n N room chart marks index covers sets 0
-start-between {n = n} {N} {marks = marks} {index} a b c d e f h unmarked zeros there uncovered =
+pub start-between : {g : List Rule} {n N room : ℕ} {chart marks cells sets : List ℕ} → n ≤ mostWords → N ≤ maxNonterminals → room ≤ 65535
+    → 16 * room ≤ length chart → spans n * N < length marks → 4 * (spans n * N) ≤ length cells → marks ≡ replicate (length marks) 0
+    → cells ≡ replicate (length cells) 0 → Classified g sets → Sorted g n [] sets → Between g n N room chart marks cells sets 0
+start-between {n = n} {N} {marks = marks} {cells} a b c d e f unmarked empty classes sorted =
     record {
       wordsFit = a;
       symbolsFit = b;
@@ -197,96 +165,21 @@ start-between {n = n} {N} {marks = marks} {index} a b c d e f h unmarked zeros t
       countFits = omega arith;
       exact = refl;
       feet = λ m l. absurd (omega arith);
-      clear = λ φ fits. rw (unmarked (footNumber n N φ / 8), bit-zero (footNumber n N φ % 8));
+      clear = λ φ fits. rw (all-zero marks unmarked (footNumber n N φ / 8), bitOf-zero (footNumber n N φ % 8));
       indexed = record {
         long = f;
-        within = λ k. omega (arith, zeros k);
-        ranges = λ A i j x y z. rw (zeros (3 * cellAt N A i j), zeros (3 * cellAt N A i j + 1));
-        bares = λ A i j x y z. rw (zeros (3 * cellAt N A i j + 2));
+        toWithin = λ at. omega (arith, zeros (4 * at + 1));
+        bareWithin = λ at. omega (arith, zeros (4 * at + 2));
+        ranges = λ A i j x y z. rw (zeros (4 * cellAt N A i j), zeros (4 * cellAt N A i j + 1));
+        bares = λ A i j x y z. rw (zeros (4 * cellAt N A i j + 2));
       };
-      sorted = record {
-        rows = h;
-        firsts = λ p r i k x y z w. first-empty i k r;
-        seconds = λ p r k j x y z w. second-empty k j r;
-      };
-      covered = covered-start there uncovered;
+      covered = covered-start f empty;
+      classified = classes;
+      sorted = sorted;
     }
-
--- What an absence says is the same of a chart with the same positions over the span.
-pub first-kept : (b c : List Record) (i k : ℕ) (r : Rule) → ((B : ℕ) → places b B i k ≡ places c B i k)
-    → ((B : ℕ) → barePlaces b B i k ≡ barePlaces c B i k) → FirstAbsent c i k r → FirstAbsent b i k r
-first-kept b c i k (Lexical A w) p q h = tt
-first-kept b c i k (Spine A a [] D after) p q h = p D ∙ h
-first-kept b c i k (Spine A a (B ∷ before) D after) p q h = q B ∙ h
-
-pub second-kept : (b c : List Record) (k j : ℕ) (r : Rule) → ((B : ℕ) → places b B k j ≡ places c B k j)
-    → ((B : ℕ) → barePlaces b B k j ≡ barePlaces c B k j) → SecondAbsent c k j r → SecondAbsent b k j r
-second-kept b c k j (Lexical A w) p q h = tt
-second-kept b c k j (Spine A a [] D []) p q h = tt
-second-kept b c k j (Spine A a [] D (B ∷ after)) p q h = q B ∙ h
-second-kept b c k j (Spine A a (B ∷ before) D after) p q h = p D ∙ h
-
--- The sets of a chart that one cell was added to.
-module _ (g : List Rule) (n A i j : ℕ) (few : A < maxNonterminals) (ij : i < j) (jn : j ≤ n) {c b : List Record}
-    (grown : Grown (IsCell A i j) c b) (by sets new : List ℕ) (last : ℕ) (classes : Classified g by) (old : Sorted g n c sets)
-    (noted : Noted n by A i j last sets new) (lone : last ≡ 0 → barePlaces b A i j ≡ []) where
-  places-apart : (B : ℕ) → (B ≡ A → ⊥) → places b B i j ≡ places c B i j
-  places-apart B d = places-other B i j (λ x. d (x .0)) grown
-
-  bares-apart : (B : ℕ) → (B ≡ A → ⊥) → barePlaces b B i j ≡ barePlaces c B i j
-  bares-apart B d = bares-other B i j (λ x. d (x .0)) grown
-
-  bares-here : (B : ℕ) → B ≡ A → ((last ≡ 0 → ⊥) → ⊥) → barePlaces b B i j ≡ []
-  bares-here B e h = elim (ℕ-discrete last 0) [
-    | yes z ↦ rw e (lone z)
-    | no d ↦ absurd (h d)
-  ]
-
-  first-here : (p : ℕ) (r : Rule) → getElem? g p ≡ some r → bitOf p (getD new (2 * spanAt i j) 0) ≡ 0 → FirstAbsent b i j r
-  first-here p (Lexical A′ w) e z = tt
-  first-here p (Spine A′ a [] D after) e z = elim (ℕ-discrete D A) [
-    | yes q ↦ absurd (classes .firstDependents A few p _ e (noted .firsts p z .1) q)
-    | no d ↦ places-apart D d ∙ old .firsts p _ i j e ij jn (noted .firsts p z .0)
-  ]
-  first-here p (Spine A′ a (B ∷ before) D after) e z = elim (ℕ-discrete B A) [
-    | yes q ↦ bares-here B q (λ d. classes .firstSides A few p _ e (noted .firsts p z .2 d) q)
-    | no d ↦ bares-apart B d ∙ old .firsts p _ i j e ij jn (noted .firsts p z .0)
-  ]
-
-  second-here : (p : ℕ) (r : Rule) → getElem? g p ≡ some r → bitOf p (getD new (2 * spanAt i j + 1) 0) ≡ 0 → SecondAbsent b i j r
-  second-here p (Lexical A′ w) e z = tt
-  second-here p (Spine A′ a [] D []) e z = tt
-  second-here p (Spine A′ a [] D (B ∷ after)) e z = elim (ℕ-discrete B A) [
-    | yes q ↦ bares-here B q (λ d. classes .secondSides A few p _ e (noted .seconds p z .2 d) q)
-    | no d ↦ bares-apart B d ∙ old .seconds p _ i j e ij jn (noted .seconds p z .0)
-  ]
-  second-here p (Spine A′ a (B ∷ before) D after) e z = elim (ℕ-discrete D A) [
-    | yes q ↦ absurd (classes .secondDependents A few p _ e (noted .seconds p z .1) q)
-    | no d ↦ places-apart D d ∙ old .seconds p _ i j e ij jn (noted .seconds p z .0)
-  ]
-
-  pub sorted-more : Sorted g n b new
-  sorted-more =
-      record {
-        rows = noted .rows;
-        firsts = λ p r x y e l m z. elim (ℕ-discrete (spanAt i j) (spanAt x y)) [
-          | yes s ↦ let (u, v) = span-same n i j x y ij jn l m s in
-              subst₂ (λ (x y : ℕ). FirstAbsent b x y r) u v
-              (first-here p r e (subst (λ (k : ℕ). bitOf p (getD new (2 * k) 0) ≡ 0) (sym s) z))
-          | no d ↦ first-kept b c x y r (λ B. places-other B x y (apart x y d) grown) (λ B. bares-other B x y (apart x y d) grown)
-              (old .firsts p r x y e l m (rw (noted .elsewhere (2 * spanAt x y) (omega (arith, span-below n x y l m)) (omega arith) (omega arith)) at z))
-        ];
-        seconds = λ p r x y e l m z. elim (ℕ-discrete (spanAt i j) (spanAt x y)) [
-          | yes s ↦ let (u, v) = span-same n i j x y ij jn l m s in
-              subst₂ (λ (x y : ℕ). SecondAbsent b x y r) u v
-              (second-here p r e (subst (λ (k : ℕ). bitOf p (getD new (2 * k + 1) 0) ≡ 0) (sym s) z))
-          | no d ↦ second-kept b c x y r (λ B. places-other B x y (apart x y d) grown) (λ B. bares-other B x y (apart x y d) grown)
-              (old .seconds p r x y e l m (rw (noted .elsewhere (2 * spanAt x y + 1) (omega (arith, span-below n x y l m)) (omega arith) (omega arith)) at z))
-        ];
-      }
-    where
-      apart : {B : ℕ} (x y : ℕ) → (spanAt i j ≡ spanAt x y → ⊥) → IsCell A i j B x y → ⊥
-      apart x y d (a, u, v) = d (rw (u, v))
+  where
+    zeros : (k : ℕ) → getD cells k 0 ≡ 0
+    zeros = all-zero cells empty
 
 -- Is there a place from base on and below m where f is s?
 abbrev Found : (ℕ → ℕ) → ℕ → ℕ → ℕ → Type 0
@@ -323,7 +216,7 @@ marks-clear {chart} {marks} {new} {n} {count} {base} N A i j fresh grown e exact
         ⊎ Missing (λ m. numberThere chart m / 8) (footNumber n N φ / 8) base count → markOf n N new φ ≡ false
     go (inl (m, a, b, q)) =
         let z : getD new (footNumber n N φ / 8) 0 ≡ 0 = subst (λ (s : ℕ). getD new s 0 ≡ 0) q (done .cleared m a b) in
-        rw (z, bit-zero (footNumber n N φ % 8))
+        rw (z, bitOf-zero (footNumber n N φ % 8))
     go (inr h) =
         ap (holdsBit (footNumber n N φ % 8)) (done .others (footNumber n N φ / 8) h)
         ∙ (marked φ fits ∙ not-so (among (item A i j φ) (map itemOf (chartIn chart count))) absent)

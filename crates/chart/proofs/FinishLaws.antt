@@ -14,7 +14,7 @@ use Rattle.grammar.specs.Items.{Foot}
 use Rattle.grammar.specs.ItemList.{isBare}
 use Rattle.records.specs.declared.record.Foot as declared
 use Rattle.records.specs.Room.{footThere, footFrom, numberThere}
-use Rattle.chart.specs.Tables.{bareFrom, Finished}
+use Rattle.chart.specs.Cell.{bareFrom, Finished}
 
 -- A mark that is cleared stays so.
 still-clear : (l : List ℕ) (at s : ℕ) → getD l s 0 ≡ 0 → getD (set l at 0) s 0 ≡ 0

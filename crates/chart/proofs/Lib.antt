@@ -1,10 +1,9 @@
 pub mod CardFits
 pub mod CellLaws
 pub mod FinishLaws
-pub mod SetLaws
-pub mod RowLaws
 pub mod FillLaws
 pub mod FillCells
+pub mod FillFolds
 pub mod FillSpans
 pub mod BuiltLaws
 pub mod BuiltExact

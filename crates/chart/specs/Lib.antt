@@ -1,3 +1,3 @@
-pub mod Tables
+pub mod Cell
 pub mod Fill
 pub mod Built

@@ -1,230 +1,124 @@
 // Cell by cell, span by span, end by end: the spans of an end from the shortest.
-use crate::sets::BOUNDS;
-use crate::sets::Meeting;
-use crate::sets::SETS;
 use octets::wide;
 use places::MOST_WORDS;
-use records::add::Sizes;
-use records::record::Cell;
+use records::record::OpenCell;
 ghost use mathlib.Core.Path.{_≡_};
 ghost use mathlib.Core.List.{[]};
 ghost use mathlib.Core.Option.{some};
 ghost use Prim.Native.Nat.{ℕ, _+_, _-_, _≤_, _<_};
-ghost use lib.ListN.{length};
-ghost use Rattle.layout.specs.Card.{grammarOf};
+ghost use Rattle.layout.specs.Card.{maxNonterminals, grammarOf};
 ghost use Rattle.layout.specs.Line.{mostWords};
 ghost use Rattle.places.specs.Places.{wordTest};
-ghost use Rattle.chart_model.specs.Build.{places as positions, fillCell, closeSpan, closeEnd, build};
+ghost use Rattle.chart_model.specs.Build.{places as positions, closeSpan, closeEnd, build};
 ghost use Rattle.records.specs.Room.{chartIn};
-ghost use Rattle.chart.specs.Tables.{bounds, CardGiven, Splits, CellSet, Rows};
-ghost use Rattle.chart.specs.Fill.{Classified, Between, Filled, SpanSet, Closed};
+ghost use Rattle.sets.specs.Places.{OnlyMeeting, OnlySpans};
+ghost use Rattle.sets.specs.Spans.{Rows};
+ghost use Rattle.chart.specs.Fill.{Filled, Ready, FilledTo, OpenedAt, Fillable, filledCell, SpanSet, Closed};
+
+// The line's words, the card's nonterminals, and the items that the room holds.
+pub struct Sizes {
+    pub words: usize,
+    pub symbols: usize,
+    pub room: usize,
+}
+
+// The cell of nonterminal a over i to j, begun with so many records.
+fn open_cell(sizes: Sizes, a: usize, i: usize, j: usize, base: usize) -> OpenCell
+    requires { ⌜ (sizes .words ≤ mostWords) × (sizes .symbols ≤ maxNonterminals) × (a < sizes .symbols) × (i < j) × (j ≤ sizes .words) ⌝ }
+    ensures { λ r. ⌜ OpenedAt sizes a i j base r ⌝ }
+{
+    let number = records::cells::cell_at(sizes.words, sizes.symbols, a, i, j);
+    OpenCell {
+        words: sizes.words,
+        symbols: sizes.symbols,
+        room: sizes.room,
+        base,
+        number,
+        left: a as u8,
+        from: i as u8,
+        to: j as u8,
+    }
+}
 
 // One cell: its records, and then its place in the tables. The set has every production that can add to it.
 fn fill_cell(
     chart: &mut [u8],
     marks: &mut [u8],
-    index: &mut [u16],
-    covers: &mut [u16],
+    cells: &mut [u16],
     sets: &mut [u64],
-    both: &[u64; BOUNDS],
-    splits: u64,
-    by: &[u64; SETS],
-    z: Sizes,
-    c: Cell,
+    cell: OpenCell,
     card: &[u8],
-    table: usize,
     places: &[u32; MOST_WORDS],
     set: u64,
-    count: usize,
 ) -> usize
-    requires { ⌜ Between (grammarOf (now card)) (z .words) (z .symbols) (z .room)
-        (now chart) (now marks) (now index) (now covers) (now sets) count
-        × (z .base ≡ count) × CardGiven (now card) table (z .symbols) × Classified (grammarOf (now card)) (now by)
-        × (c .left < z .symbols) × (c .from < c .to) × (c .to ≤ z .words)
-        × (positions (chartIn (now chart) count) (c .left) (c .from) (c .to) ≡ [])
-        × CellSet (grammarOf (now card)) (wordTest (now places)) (chartIn (now chart) count) (c .left) (c .from) (c .to - c .from) set
-        × Splits (grammarOf (now card)) (chartIn (now chart) count) (c .from) (c .to) (now both) splits ⌝ }
-    ensures { λ r. ⌜ Filled (grammarOf (now (card .entry))) (z .words) (z .symbols) (z .room)
-        (fillCell (z .room) (grammarOf (now (card .entry))) (wordTest (now (places .entry))) (c .to - c .from) (c .from) (c .left)
-        (some (chartIn (now (chart .entry)) count)))
-        (now (chart .entry)) (now (chart .exit)) (now (marks .exit)) (now (index .exit)) (now (covers .exit)) (now (sets .exit)) r ⌝ }
+    requires { ⌜ Fillable (now card) (now places) cell (now chart) (now marks) (now cells) (now sets) set ⌝ }
+    ensures { λ r. ⌜ Filled (grammarOf (now (card .entry))) (cell .words) (cell .symbols) (cell .room)
+        (filledCell (now (card .entry)) (now (places .entry)) cell (now (chart .entry)))
+        (now (chart .entry)) (now (chart .exit)) (now (marks .exit)) (now (cells .exit)) (now (sets .exit)) r
+        × OnlySpans (now (sets .entry)) (now (sets .exit)) ⌝ }
 {
-    let total = crate::cell::fill_items(
-        chart,
-        marks,
-        index,
-        covers,
-        both,
-        splits,
-        z,
-        c,
-        card,
-        table,
-        places,
-        set,
-        count,
-    );
-    if z.room < total {
+    let base = cell.base;
+    let total = crate::cell::fill_items(chart, marks, cells, sets, cell, card, places, set, base);
+    if cell.room < total {
         return total;
     }
-    if total == count {
+    if total == base {
         return total;
     }
-    let r = crate::cell::finish(chart, marks, z, c, total);
-    let at = records::index::cell_at(z.words, z.symbols, wide(c.left), wide(c.from), wide(c.to));
-    records::index::put_range(index, at, r);
-    crate::sets::note(sets, by, z.words, c, r);
+    let range = crate::cell::finish(chart, marks, cell, total);
+    records::cells::put_range(cells, cell.number, range);
+    sets::note(sets, cell, range.bare);
     total
 }
 
-// What can add to a span: the word productions for the words of its place, or those with both elements at some split, and these splits.
-fn span_set(
-    sets: &[u64],
-    both: &mut [u64; BOUNDS],
-    by: &[u64; SETS],
-    n: usize,
-    i: usize,
-    j: usize,
-    places: &[u32; MOST_WORDS],
-) -> Meeting
-    requires { ⌜ (n ≤ mostWords) × (i < j) × (j ≤ n) × Rows n (now sets) × (length (now both) ≡ bounds) ⌝ }
-    ensures { λ r. ⌜ SpanSet (now (by .entry)) (now (sets .entry)) (now (places .entry)) i j (now (both .exit)) r ⌝ }
+// What can add to a span: the word productions for the words of its place, or those with both elements at some split.
+fn span_set(sets: &mut [u64], n: usize, i: usize, j: usize, places: &[u32; MOST_WORDS]) -> u64
+    requires { ⌜ (n ≤ mostWords) × (i < j) × (j ≤ n) × Rows n (now sets) ⌝ }
+    ensures { λ r. ⌜ SpanSet (now (places .entry)) i j (now (sets .exit)) r × OnlyMeeting (now (sets .entry)) (now (sets .exit)) ⌝ }
 {
     if j - i == 1 {
         let words = places[i];
-        let productions = crate::sets::of_words(by, words);
-        return Meeting {
-            splits: 0,
-            productions,
-        };
+        sets::meet_none(sets);
+        return sets::of_words(sets, words);
     }
-    crate::sets::meet(sets, n, i, j, both)
-}
-
-// The cell of nonterminal a over i to j. The set has every production that can add to it.
-fn fill_left(
-    chart: &mut [u8],
-    marks: &mut [u8],
-    index: &mut [u16],
-    covers: &mut [u16],
-    sets: &mut [u64],
-    both: &[u64; BOUNDS],
-    splits: u64,
-    by: &[u64; SETS],
-    n: usize,
-    symbols: usize,
-    room: usize,
-    a: usize,
-    i: usize,
-    j: usize,
-    card: &[u8],
-    table: usize,
-    places: &[u32; MOST_WORDS],
-    set: u64,
-    count: usize,
-) -> usize
-    requires { ⌜ Between (grammarOf (now card)) n symbols room (now chart) (now marks) (now index) (now covers) (now sets) count
-        × CardGiven (now card) table symbols × Classified (grammarOf (now card)) (now by) × (a < symbols) × (i < j) × (j ≤ n)
-        × (positions (chartIn (now chart) count) a i j ≡ [])
-        × CellSet (grammarOf (now card)) (wordTest (now places)) (chartIn (now chart) count) a i (j - i) set
-        × Splits (grammarOf (now card)) (chartIn (now chart) count) i j (now both) splits ⌝ }
-    ensures { λ r. ⌜ Filled (grammarOf (now (card .entry))) n symbols room
-        (fillCell room (grammarOf (now (card .entry))) (wordTest (now (places .entry))) (j - i) i a (some (chartIn (now (chart .entry)) count)))
-        (now (chart .entry)) (now (chart .exit)) (now (marks .exit)) (now (index .exit)) (now (covers .exit)) (now (sets .exit)) r ⌝ }
-{
-    let z = Sizes {
-        words: n,
-        symbols,
-        room,
-        base: count,
-    };
-    let c = Cell {
-        left: a as u8,
-        from: i as u8,
-        to: j as u8,
-    };
-    fill_cell(
-        chart,
-        marks,
-        index,
-        covers,
-        sets,
-        both,
-        splits,
-        by,
-        z,
-        c,
-        card,
-        table,
-        places,
-        set,
-        count,
-    )
+    sets::meet(sets, n, i, j)
 }
 
 // One span, from one nonterminal that has a production in the span's set to the next. The others add nothing.
 fn close_span(
     chart: &mut [u8],
     marks: &mut [u8],
-    index: &mut [u16],
-    covers: &mut [u16],
+    cells: &mut [u16],
     sets: &mut [u64],
-    both: &mut [u64; BOUNDS],
-    by: &[u64; SETS],
-    n: usize,
-    symbols: usize,
-    room: usize,
+    sizes: Sizes,
     i: usize,
     j: usize,
     card: &[u8],
-    table: usize,
     places: &[u32; MOST_WORDS],
     count: usize,
 ) -> usize
-    requires { ⌜ Between (grammarOf (now card)) n symbols room (now chart) (now marks) (now index) (now covers) (now sets) count
-        × CardGiven (now card) table symbols × Classified (grammarOf (now card)) (now by) × (i < j) × (j ≤ n)
-        × ((A : ℕ) → positions (chartIn (now chart) count) A i j ≡ []) × (length (now both) ≡ bounds) ⌝ }
-    ensures { λ r. ⌜ Filled (grammarOf (now (card .entry))) n symbols room
-        (closeSpan room (grammarOf (now (card .entry))) (wordTest (now (places .entry))) symbols (j - i) i
+    requires { ⌜ Ready (now card) sizes (now chart) (now marks) (now cells) (now sets) count × (i < j) × (j ≤ sizes .words)
+        × ((A : ℕ) → positions (chartIn (now chart) count) A i j ≡ []) ⌝ }
+    ensures { λ r. ⌜ FilledTo (now (card .entry)) sizes
+        (closeSpan (sizes .room) (grammarOf (now (card .entry))) (wordTest (now (places .entry))) (sizes .symbols) (j - i) i
         (some (chartIn (now (chart .entry)) count)))
-        (now (chart .entry)) (now (chart .exit)) (now (marks .exit)) (now (index .exit)) (now (covers .exit)) (now (sets .exit)) r
-        × (length (now (both .exit)) ≡ bounds) ⌝ }
+        (now (chart .entry)) (now (chart .exit)) (now (marks .exit)) (now (cells .exit)) (now (sets .exit)) r ⌝ }
 {
-    let met = span_set(sets, both, by, n, i, j, places);
-    let set = met.productions;
-    let splits = met.splits;
+    let set = span_set(sets, sizes.words, i, j, places);
     if set == 0 {
         return count;
     }
-    let mut a = crate::sets::next_left(by, set, 0, symbols);
+    let symbols = sizes.symbols;
+    let mut a = sets::next_left(sets, set, 0, symbols);
     let mut total = count;
     while a < symbols {
-        let own = by[a] & set;
-        total = fill_left(
-            chart,
-            marks,
-            index,
-            covers,
-            sets,
-            both,
-            splits,
-            by,
-            n,
-            symbols,
-            room,
-            a,
-            i,
-            j,
-            card,
-            table,
-            places,
-            own,
-            total,
-        );
-        if room < total {
+        let own = sets[a] & set;
+        let cell = open_cell(sizes, a, i, j, total);
+        total = fill_cell(chart, marks, cells, sets, cell, card, places, own);
+        if sizes.room < total {
             return total;
         }
-        a = crate::sets::next_left(by, set, a + 1, symbols);
+        a = sets::next_left(sets, set, a + 1, symbols);
     }
     total
 }
@@ -233,27 +127,20 @@ fn close_span(
 fn close_end(
     chart: &mut [u8],
     marks: &mut [u8],
-    index: &mut [u16],
-    covers: &mut [u16],
+    cells: &mut [u16],
     sets: &mut [u64],
-    both: &mut [u64; BOUNDS],
-    by: &[u64; SETS],
-    n: usize,
-    symbols: usize,
-    room: usize,
+    sizes: Sizes,
     e: usize,
     card: &[u8],
-    table: usize,
     places: &[u32; MOST_WORDS],
     count: usize,
 ) -> usize
-    requires { ⌜ Between (grammarOf (now card)) n symbols room (now chart) (now marks) (now index) (now covers) (now sets) count
-        × CardGiven (now card) table symbols × Classified (grammarOf (now card)) (now by) × (e < n)
-        × ((A i : ℕ) → positions (chartIn (now chart) count) A i (e + 1) ≡ []) × (length (now both) ≡ bounds) ⌝ }
-    ensures { λ r. ⌜ Filled (grammarOf (now (card .entry))) n symbols room
-        (closeEnd room (grammarOf (now (card .entry))) (wordTest (now (places .entry))) symbols e (some (chartIn (now (chart .entry)) count)))
-        (now (chart .entry)) (now (chart .exit)) (now (marks .exit)) (now (index .exit)) (now (covers .exit)) (now (sets .exit)) r
-        × (length (now (both .exit)) ≡ bounds) ⌝ }
+    requires { ⌜ Ready (now card) sizes (now chart) (now marks) (now cells) (now sets) count × (e < sizes .words)
+        × ((A i : ℕ) → positions (chartIn (now chart) count) A i (e + 1) ≡ []) ⌝ }
+    ensures { λ r. ⌜ FilledTo (now (card .entry)) sizes
+        (closeEnd (sizes .room) (grammarOf (now (card .entry))) (wordTest (now (places .entry))) (sizes .symbols) e
+        (some (chartIn (now (chart .entry)) count)))
+        (now (chart .entry)) (now (chart .exit)) (now (marks .exit)) (now (cells .exit)) (now (sets .exit)) r ⌝ }
 {
     let mut m = 0;
     let mut total = count;
@@ -261,22 +148,16 @@ fn close_end(
         total = close_span(
             chart,
             marks,
-            index,
-            covers,
+            cells,
             sets,
-            both,
-            by,
-            n,
-            symbols,
-            room,
+            sizes,
             e - m,
             e + 1,
             card,
-            table,
             places,
             total,
         );
-        if room < total {
+        if sizes.room < total {
             return total;
         }
         m += 1;
@@ -284,48 +165,26 @@ fn close_end(
     total
 }
 
-// All ends, from the left. The tables are lent, and are 0 at the start.
+// All ends, from the left. The tables are lent, and are 0 at the start but for the sets of the card's productions.
 pub fn close_all(
     chart: &mut [u8],
     marks: &mut [u8],
-    index: &mut [u16],
-    covers: &mut [u16],
+    cells: &mut [u16],
     sets: &mut [u64],
-    both: &mut [u64; BOUNDS],
-    by: &[u64; SETS],
-    n: usize,
-    symbols: usize,
-    room: usize,
+    sizes: Sizes,
     card: &[u8],
-    table: usize,
     places: &[u32; MOST_WORDS],
 ) -> usize
-    requires { ⌜ Between (grammarOf (now card)) n symbols room (now chart) (now marks) (now index) (now covers) (now sets) 0
-        × CardGiven (now card) table symbols × Classified (grammarOf (now card)) (now by) × (length (now both) ≡ bounds) ⌝ }
-    ensures { λ r. ⌜ Closed n symbols room
-        (build room (grammarOf (now (card .entry))) (wordTest (now (places .entry))) symbols n) (now (chart .entry)) (now (chart .exit)) r ⌝ }
+    requires { ⌜ Ready (now card) sizes (now chart) (now marks) (now cells) (now sets) 0 ⌝ }
+    ensures { λ r. ⌜ Closed (sizes .words) (sizes .symbols) (sizes .room)
+        (build (sizes .room) (grammarOf (now (card .entry))) (wordTest (now (places .entry))) (sizes .symbols) (sizes .words))
+        (now (chart .entry)) (now (chart .exit)) r ⌝ }
 {
     let mut e = 0;
     let mut total = 0;
-    while e < n {
-        total = close_end(
-            chart,
-            marks,
-            index,
-            covers,
-            sets,
-            both,
-            by,
-            n,
-            symbols,
-            room,
-            e,
-            card,
-            table,
-            places,
-            total,
-        );
-        if room < total {
+    while e < sizes.words {
+        total = close_end(chart, marks, cells, sets, sizes, e, card, places, total);
+        if sizes.room < total {
             return total;
         }
         e += 1;

@@ -1,7 +1,6 @@
 // The chart builder (document 01, "The chart"): the derivable items of an accepted line, each once, in a lent room.
 mod build;
 mod cell;
-mod sets;
 mod sized;
 
 use places::MOST_WORDS;

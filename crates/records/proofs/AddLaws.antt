@@ -13,8 +13,10 @@ use Rattle.grammar.specs.ItemList.{Item, item, sameFoot, sameItem, among}
 use Rattle.grammar.specs.Chart.{Record, recorded, itemOf}
 use Rattle.grammar.proofs.ListLaws.{eqb-self}
 use Rattle.chart_model.specs.Build.{added, addEach}
-use Rattle.records.specs.Room.{recordAt, chartIn, stateOf, FootFits, FeetFit, footNumber, numbered, numberedChart, markOf, MarkAdded, Marked, Working, Added}
-use Rattle.records.proofs.RoomLaws.{map-append, chart-length, chart-more, chart-kept, numbered-length, concatMap-last, placed, placed-length, placed-kept, placed-taken, placed-rest, numbered-record}
+use Rattle.records.specs.Room.{recordAt, chartIn, stateOf, FootFits, FeetFit, footNumber, numbered, numberedChart, markOf}
+use Rattle.records.specs.Room.{MarkAdded, Marked, Working, Added}
+use Rattle.records.proofs.RoomLaws.{map-append, chart-length, chart-more, chart-kept, numbered-length, concatMap-last}
+use Rattle.records.proofs.RoomLaws.{placed, placed-length, placed-kept, placed-taken, placed-rest, numbered-record}
 use Rattle.records.proofs.MarkLaws.{same-number}
 
 -- The model's state of a room whose count fits, and of one that is over.

@@ -1,4 +1,4 @@
--- Cells that another covers. The chart only grows, so what covers goes on to cover; and two cells with one number are one, so a number
+-- Cells that another cells. The chart only grows, so what cells goes on to cover; and two cells with one number are one, so a number
 -- in the table says of which cell it is and a new number changes one cell's entry.
 use Prim.Native.Nat.{ℕ, zero, suc, _+_, _*_, _-_, _≤_, _<_}
 use native.Mathlib.Numerals.{add-one}
@@ -8,11 +8,12 @@ use native.Mathlib.Omega.{arith}
 use mathlib.Core.Path.{_≡_, refl, sym, _∙_, ap, subst, subst₃}
 use mathlib.Core.Logic.{_⊎_, inl, inr}
 use mathlib.Core.Bool.{Bool, true, false, cond, _||_, false≢true}
-use mathlib.Core.List.{List, [], _∷_, _++_, List·Memᴰ, List·Memᴰ·head, List·Memᴰ·tail, List·Memᴰ·not-nil, List·Memᴰ·cases-cons, List·Memᴰ·append-cases, List·Memᴰ·eq-of-singleton, Memᴰ·append-left, Memᴰ·append-right, Memᴰ·cast}
+use mathlib.Core.List.{List, [], _∷_, _++_, List·Memᴰ, List·Memᴰ·head, List·Memᴰ·tail, List·Memᴰ·not-nil, List·Memᴰ·cases-cons}
+use mathlib.Core.List.{List·Memᴰ·append-cases, List·Memᴰ·eq-of-singleton, Memᴰ·append-left, Memᴰ·append-right, Memᴰ·cast}
 use mathlib.Core.Option.{some}
 use lib.Dec.{eqb}
-use lib.ListN.{length, getD, set, length-set, replicate, getD-replicate}
-use lib.Seq.{getD-set-same, getD-set-other, set-getD}
+use lib.ListN.{length, replicate, getD-replicate}
+use lib.Seq.{set-getD}
 use borrow.Author.Tests.{eqb-true, eq-eqb, ne-eqb}
 use Rattle.grammar.specs.Items.{Foot}
 use Rattle.grammar.specs.ItemList.{Item, item}
@@ -25,10 +26,11 @@ use Rattle.chart_model.proofs.BuildLaws.{Has, map-wider, added-cases, addEach-n
 use Rattle.chart_model.proofs.Candidates.{in-places, places-in}
 use Rattle.chart_model.proofs.FillModel.{InCell, IsCell, Grown, same, more}
 use Rattle.records.specs.Room.{recordAt, chartIn}
-use Rattle.records.specs.Index.{spans, cellAt, SpanFits}
-use Rattle.records.specs.Cover.{CoversIn, Coverer, present, Covering, Covered, reaches, coveredIn, notedAnew}
+use Rattle.records.specs.Cells.{spans, cellAt, SpanFits, coverIn, withCover, reaches, coveredIn, notedAnew}
+use Rattle.records.specs.Cover.{CoversIn, Coverer, present, Covering, Covered}
 use Rattle.records.specs.Cover
 use Rattle.records.proofs.TableLaws.{cell-below, cell-same}
+use Rattle.records.proofs.CellsLaws.{cover-length, cover-same, cover-other}
 use Rattle.records.proofs.RoomLaws.{chart-more}
 use Rattle.records.proofs.AddLaws.{adds-old}
 
@@ -126,37 +128,38 @@ grown-others {A} {i} {j} (more {b = e} r g o new) B p q φ other h =
     ]
 
 -- The test, from what the code finds in the table.
-pub reaches-none : (covers : List ℕ) (own : ℕ) {last : ℕ} → last ≡ 0 → reaches covers own last ≡ false
-reaches-none covers own e = rw e
+pub reaches-none : (cells : List ℕ) (coverer : ℕ) {last : ℕ} → last ≡ 0 → reaches cells coverer last ≡ false
+reaches-none cells coverer e = rw e
 
-pub reaches-here : (covers : List ℕ) (own : ℕ) {last : ℕ} → last ≡ own + 1 → reaches covers own last ≡ true
-reaches-here covers own e = rw (e, add-one, eq-eqb own own refl)
+pub reaches-here : (cells : List ℕ) (coverer : ℕ) {last : ℕ} → last ≡ coverer + 1 → reaches cells coverer last ≡ true
+reaches-here cells coverer e = rw (e, add-one, eq-eqb coverer coverer refl)
 
-pub reaches-there : (covers : List ℕ) (own last : ℕ) → (last ≡ 0 → ⊥) → (last ≡ own + 1 → ⊥)
-    → eqb (getD covers (last - 1) 0) (own + 1) ≡ reaches covers own last
-reaches-there covers own zero d e = absurd (d refl)
-reaches-there covers own (suc m) d e =
+pub reaches-there : (cells : List ℕ) (coverer last : ℕ) → (last ≡ 0 → ⊥) → (last ≡ coverer + 1 → ⊥)
+    → eqb (coverIn cells (last - 1)) (coverer + 1) ≡ reaches cells coverer last
+reaches-there cells coverer zero d e = absurd (d refl)
+reaches-there cells coverer (suc m) d e =
     let less : suc m - 1 ≡ m = omega arith in
-    rw (less, ne-eqb m own (λ q. e (omega arith)), add-one)
+    rw (less, ne-eqb m coverer (λ q. e (omega arith)), add-one)
 
--- The table that the code leaves: as it was, whether the place is covered by no cell or by the number that it has already, or noted.
-pub left-as-is : (covers : List ℕ) (own at : ℕ) → coveredIn covers own at ≡ false → covers ≡ notedAnew covers own at
-left-as-is covers own at e = rw (e, notedAnew)
+-- The table that the code leaves: as it was, whether the cell is covered by none or by the number that it has already, or noted.
+module _ (cells : List ℕ) (coverer cell : ℕ) where
+  pub left-as-is : coveredIn cells coverer cell ≡ false → cells ≡ notedAnew cells coverer cell
+  left-as-is e = rw (e, notedAnew)
 
-pub noted-already : (covers : List ℕ) (own at : ℕ) → coveredIn covers own at ≡ true → getD covers at 0 ≡ own + 1
-    → covers ≡ notedAnew covers own at
-noted-already covers own at e d = rw (e, notedAnew) (sym (set-getD covers at 0) ∙ ap (set covers at) (d ∙ add-one own))
+  pub noted-already : coveredIn cells coverer cell ≡ true → coverIn cells cell ≡ coverer + 1 → cells ≡ notedAnew cells coverer cell
+  noted-already e d =
+      rw (e, notedAnew) (sym (set-getD cells (4 * cell + 3) 0) ∙ ap (withCover cells cell) (d ∙ add-one coverer))
 
-pub noted-now : (covers : List ℕ) (own at : ℕ) → coveredIn covers own at ≡ true → set covers at (own + 1) ≡ notedAnew covers own at
-noted-now covers own at e = rw (e, notedAnew, add-one)
+  pub noted-now : coveredIn cells coverer cell ≡ true → withCover cells cell (coverer + 1) ≡ notedAnew cells coverer cell
+  noted-now e = rw (e, notedAnew, add-one)
 
 either-true : (x y : Bool) → (x || y) ≡ true → (x ≡ true) ⊎ (y ≡ true)
 either-true true y e = inl refl
 either-true false y e = inr e
 
-module _ {n N A i j : ℕ} {b c : List Record} {covers : List ℕ} (t : Covering n N A i j b c covers) where
+module _ {n N A i j : ℕ} {b c : List Record} {cells : List ℕ} (t : Covering n N A i j b c cells) where
   -- The chart goes on to grow.
-  pub covering-wider : {e : List Record} → ((x : Item) → Has c x → Has e x) → Covering n N A i j b e covers
+  pub covering-wider : {e : List Record} → ((x : Item) → Has c x → Has e x) → Covering n N A i j b e cells
   covering-wider {e} wider = record { long = t .long; sound = λ B p q s m d. still (t .sound B p q s m d); empty = t .empty }
     where
       still : {B p q m : ℕ} → Coverer n N A i j b c B p q m → Coverer n N A i j b e B p q m
@@ -164,16 +167,16 @@ module _ {n N A i j : ℕ} {b c : List Record} {covers : List ℕ} (t : Covering
       still (Cover.earlier s d h) = Cover.earlier s d h
 
   module _ (fits : SpanFits n N A i j) where
-    -- A number in the table is a cell's, so it lies within the table.
-    pub covering-below : {B p q : ℕ} → SpanFits n N B p q → getD covers (cellAt N B p q) 0 ≤ length covers
-    covering-below {B} {p} {q} s = go (getD covers (cellAt N B p q) 0) refl
+    -- A number in the table is a cell's, so that cell lies within the table.
+    pub covering-below : {B p q : ℕ} → SpanFits n N B p q → 4 * coverIn cells (cellAt N B p q) ≤ length cells
+    covering-below {B} {p} {q} s = go (coverIn cells (cellAt N B p q)) refl
       where
         below : {B p q m : ℕ} → Coverer n N A i j b c B p q m → m < spans n * N
         below (present d h) = subst (λ (k : ℕ). k < spans n * N) (sym d) (cell-below n N A i j (fits .0) (fits .1) (fits .2))
         below (Cover.earlier {A′} {i′} {j′} s d h) =
             subst (λ (k : ℕ). k < spans n * N) (sym d) (cell-below n N A′ i′ j′ (s .0) (s .1) (s .2))
 
-        go : (last : ℕ) → getD covers (cellAt N B p q) 0 ≡ last → last ≤ length covers
+        go : (last : ℕ) → coverIn cells (cellAt N B p q) ≡ last → 4 * last ≤ length cells
         go zero e = omega arith
         go (suc m) e = omega (arith, below (t .sound B p q s m e), t .long)
 
@@ -185,17 +188,17 @@ module _ {n N A i j : ℕ} {b c : List Record} {covers : List ℕ} (t : Covering
           let (x, y, z) = cell-same n N A′ i′ j′ A i j (s .0) (s .1) (s .2) (fits .0) (fits .1) (fits .2) (sym d ∙ e) in
           wider (item A i j φ) (subst₃ (λ (A i j : ℕ). Has b (item A i j φ)) x y z (h φ o))
 
-      by-another : {B p q m : ℕ} → Coverer n N A i j b c B p q m → getD covers m 0 ≡ suc (cellAt N A i j) → CoversIn b c A i j B p q
+      by-another : {B p q m : ℕ} → Coverer n N A i j b c B p q m → coverIn cells m ≡ suc (cellAt N A i j) → CoversIn b c A i j B p q
       by-another (present d h) e φ o = h φ o
       by-another (Cover.earlier {A′} {i′} {j′} s d h) e φ o =
-          let there = subst (λ (k : ℕ). getD covers k 0 ≡ suc (cellAt N A i j)) d e in
+          let there = subst (λ (k : ℕ). coverIn cells k ≡ suc (cellAt N A i j)) d e in
           own-covers (t .sound A′ i′ j′ s _ there) refl φ (h φ o)
 
-      pub covered-sound : {B p q : ℕ} → SpanFits n N B p q → coveredIn covers (cellAt N A i j) (cellAt N B p q) ≡ true
+      pub covered-sound : {B p q : ℕ} → SpanFits n N B p q → coveredIn cells (cellAt N A i j) (cellAt N B p q) ≡ true
           → CoversIn b c A i j B p q
-      covered-sound {B} {p} {q} s = go (getD covers (cellAt N B p q) 0) refl
+      covered-sound {B} {p} {q} s = go (coverIn cells (cellAt N B p q)) refl
         where
-          go : (last : ℕ) → getD covers (cellAt N B p q) 0 ≡ last → reaches covers (cellAt N A i j) last ≡ true
+          go : (last : ℕ) → coverIn cells (cellAt N B p q) ≡ last → reaches cells (cellAt N A i j) last ≡ true
               → CoversIn b c A i j B p q
           go zero e h = absurd (false≢true h)
           go (suc m) e h = elim (either-true (eqb m (cellAt N A i j)) _ h) [
@@ -205,7 +208,7 @@ module _ {n N A i j : ℕ} {b c : List Record} {covers : List ℕ} (t : Covering
 
       -- The cell is filled. Of the other cells nothing was added, and its own entry is 0, for it had no records.
       pub end-covered : ((B p q : ℕ) (φ : Foot) → (IsCell A i j B p q → ⊥) → Has c (item B p q φ) → Has b (item B p q φ))
-          → places b A i j ≡ [] → Covered n N c covers
+          → places b A i j ≡ [] → Covered n N c cells
       end-covered others fresh =
           record { long = t .long; sound = sound; empty = λ B p q s e. t .empty B p q s (places-fewer b c B p q wider e) }
         where
@@ -217,16 +220,16 @@ module _ {n N A i j : ℕ} {b c : List Record} {covers : List ℕ} (t : Covering
           whose B p q m other (present d h) = (A, i, j, fits, d, λ φ o. h φ (others B p q φ other o))
           whose B p q m other (Cover.earlier {A′} {i′} {j′} s d h) = (A′, i′, j′, s, d, λ φ o. wider _ (h φ (others B p q φ other o)))
 
-          sound : (B p q : ℕ) → SpanFits n N B p q → (m : ℕ) → getD covers (cellAt N B p q) 0 ≡ suc m
+          sound : (B p q : ℕ) → SpanFits n N B p q → (m : ℕ) → coverIn cells (cellAt N B p q) ≡ suc m
               → (A : ℕ) × (i : ℕ) × (j : ℕ) × SpanFits n N A i j × (m ≡ cellAt N A i j) × CoversIn c c A i j B p q
           sound B p q s m e =
               whose B p q m (λ d. let z = t .empty B p q s (alone B p q d) in absurd (omega (arith, z, e))) (t .sound B p q s m e)
 
   -- A cell whose feet were all taken over is noted. It has records, so its entry need not be 0.
   pub covering-note : {D k m : ℕ} → SpanFits n N D k m → CoversIn b c A i j D k m → (places b D k m ≡ [] → ⊥)
-      → Covering n N A i j b c (set covers (cellAt N D k m) (suc (cellAt N A i j)))
+      → Covering n N A i j b c (withCover cells (cellAt N D k m) (suc (cellAt N A i j)))
   covering-note {D} {k} {m} f over some-there =
-      record { long = omega (arith, t .long, length-set covers at own); sound = sound; empty = empty }
+      record { long = omega (arith, t .long, cover-length cells at own); sound = sound; empty = empty }
     where
       at : ℕ
       at = cellAt N D k m
@@ -234,45 +237,45 @@ module _ {n N A i j : ℕ} {b c : List Record} {covers : List ℕ} (t : Covering
       own : ℕ
       own = suc (cellAt N A i j)
 
-      inside : at < length covers
+      inside : 4 * at + 4 ≤ length cells
       inside = omega (arith, t .long, cell-below n N D k m (f .0) (f .1) (f .2))
 
       one : (B p q : ℕ) → SpanFits n N B p q → cellAt N B p q ≡ at → IsCell D k m B p q
       one B p q s e = cell-same n N B p q D k m (s .0) (s .1) (s .2) (f .0) (f .1) (f .2) e
 
-      sound : (B p q : ℕ) → SpanFits n N B p q → (x : ℕ) → getD (set covers at own) (cellAt N B p q) 0 ≡ suc x
+      sound : (B p q : ℕ) → SpanFits n N B p q → (x : ℕ) → coverIn (withCover cells at own) (cellAt N B p q) ≡ suc x
           → Coverer n N A i j b c B p q x
       sound B p q s x e = elim (ℕ-discrete (cellAt N B p q) at) [
         | yes d ↦
             let (u, v, w) = one B p q s d in
-            let there = sym (getD-set-same covers at own 0 inside) ∙ ap (λ (y : ℕ). getD (set covers at own) y 0) (sym d) ∙ e in
+            let there = sym (cover-same cells at own inside) ∙ ap (coverIn (withCover cells at own)) (sym d) ∙ e in
             present (omega (arith, there)) (λ φ o. over φ (subst₃ (λ (B p q : ℕ). Has b (item B p q φ)) u v w o))
-        | no d ↦ t .sound B p q s x (sym (getD-set-other covers at (cellAt N B p q) own 0 d) ∙ e)
+        | no d ↦ t .sound B p q s x (sym (cover-other cells at own (cellAt N B p q) d) ∙ e)
       ]
 
-      empty : (B p q : ℕ) → SpanFits n N B p q → places b B p q ≡ [] → getD (set covers at own) (cellAt N B p q) 0 ≡ 0
+      empty : (B p q : ℕ) → SpanFits n N B p q → places b B p q ≡ [] → coverIn (withCover cells at own) (cellAt N B p q) ≡ 0
       empty B p q s e = elim (ℕ-discrete (cellAt N B p q) at) [
         | yes d ↦
             let (u, v, w) = one B p q s d in
             absurd (some-there (subst₃ (λ (B p q : ℕ). places b B p q ≡ []) u v w e))
-        | no d ↦ getD-set-other covers at (cellAt N B p q) own 0 d ∙ t .empty B p q s e
+        | no d ↦ cover-other cells at own (cellAt N B p q) d ∙ t .empty B p q s e
       ]
 
   -- So is a cell that the test finds covered: its entry is not 0, so it has records.
   pub covering-anew : SpanFits n N A i j → ((x : Item) → Has b x → Has c x) → {D k m : ℕ} → SpanFits n N D k m
-      → Covering n N A i j b c (notedAnew covers (cellAt N A i j) (cellAt N D k m))
-  covering-anew fits wider {D} {k} {m} f = go (coveredIn covers (cellAt N A i j) (cellAt N D k m)) refl
+      → Covering n N A i j b c (notedAnew cells (cellAt N A i j) (cellAt N D k m))
+  covering-anew fits wider {D} {k} {m} f = go (coveredIn cells (cellAt N A i j) (cellAt N D k m)) refl
     where
-      has-records : coveredIn covers (cellAt N A i j) (cellAt N D k m) ≡ true → places b D k m ≡ [] → ⊥
-      has-records e none = false≢true (sym (reaches-none covers (cellAt N A i j) (t .empty D k m f none)) ∙ e)
+      has-records : coveredIn cells (cellAt N A i j) (cellAt N D k m) ≡ true → places b D k m ≡ [] → ⊥
+      has-records e none = false≢true (sym (reaches-none cells (cellAt N A i j) (t .empty D k m f none)) ∙ e)
 
-      go : (v : Bool) → coveredIn covers (cellAt N A i j) (cellAt N D k m) ≡ v
-          → Covering n N A i j b c (cond v (set covers (cellAt N D k m) (suc (cellAt N A i j))) covers)
+      go : (v : Bool) → coveredIn cells (cellAt N A i j) (cellAt N D k m) ≡ v
+          → Covering n N A i j b c (cond v (withCover cells (cellAt N D k m) (suc (cellAt N A i j))) cells)
       go true e = covering-note f (covered-sound fits wider f e) (has-records e)
       go false e = t
 
 -- A cell is begun; and before all cells the table has zeros.
-pub start-covering : {n N : ℕ} {b : List Record} {covers : List ℕ} (A i j : ℕ) → Covered n N b covers → Covering n N A i j b b covers
+pub start-covering : {n N : ℕ} {b : List Record} {cells : List ℕ} (A i j : ℕ) → Covered n N b cells → Covering n N A i j b b cells
 start-covering A i j t =
     record {
       long = t .long;
@@ -280,11 +283,22 @@ start-covering A i j t =
       empty = t .empty;
     }
 
-pub covered-start : {n N : ℕ} {covers : List ℕ} → spans n * N ≤ length covers → covers ≡ replicate (length covers) 0 → Covered n N [] covers
-covered-start {n} {N} {covers} long zeros =
+pub covered-start : {n N : ℕ} {cells : List ℕ} → 4 * (spans n * N) ≤ length cells → cells ≡ replicate (length cells) 0
+    → Covered n N [] cells
+covered-start {n} {N} {cells} long zeros =
     record { long = long; sound = λ B p q s m e. absurd (omega (arith, at B p q s, e)); empty = λ B p q s e. at B p q s }
   where
-    at : (B p q : ℕ) → SpanFits n N B p q → getD covers (cellAt N B p q) 0 ≡ 0
+    at : (B p q : ℕ) → SpanFits n N B p q → coverIn cells (cellAt N B p q) ≡ 0
     at B p q s =
-        ap (λ (l : List ℕ). getD l (cellAt N B p q) 0) zeros
-        ∙ getD-replicate (length covers) (cellAt N B p q) 0 0 (omega (arith, long, cell-below n N B p q (s .0) (s .1) (s .2)))
+        ap (λ (l : List ℕ). coverIn l (cellAt N B p q)) zeros
+        ∙ getD-replicate (length cells) (4 * cellAt N B p q + 3) 0 0 (omega (arith, long, cell-below n N B p q (s .0) (s .1) (s .2)))
+
+-- A table as long and with the same covers, as where a range is entered.
+pub covered-covers : {n N : ℕ} {b : List Record} {old new : List ℕ} → length new ≡ length old
+    → ((cell : ℕ) → coverIn new cell ≡ coverIn old cell) → Covered n N b old → Covered n N b new
+covered-covers {N = N} e agree t =
+    record {
+      long = omega (arith, t .long, e);
+      sound = λ B p q s m d. t .sound B p q s m (sym (agree (cellAt N B p q)) ∙ d);
+      empty = λ B p q s d. agree (cellAt N B p q) ∙ t .empty B p q s d;
+    }

@@ -1,4 +1,5 @@
 pub mod TableLaws
+pub mod CellsLaws
 pub mod RoomLaws
 pub mod MarkLaws
 pub mod AddLaws

@@ -22,7 +22,8 @@ use Rattle.layout.specs.Records.{recordBytes, chartBytes}
 use Rattle.layout.proofs.CountedLaws.{table-length}
 use Rattle.layout.proofs.Feet.{word-halves}
 use Rattle.chart_model.specs.Build.{footIn, footAt}
-use Rattle.records.specs.Room.{asFoot, footThere, recordAt, chartIn, FootFits, footFields, Writable, footNumber, numbered, numberedChart, numberThere}
+use Rattle.records.specs.Room.{asFoot, footThere, recordAt, chartIn, FootFits, footFields, Writable, footNumber}
+use Rattle.records.specs.Room.{numbered, numberedChart, numberThere}
 
 -- A function over places that are counted: one more, at one place, and by another function that agrees there.
 pub counted-more : (k n : ℕ) → counted k (suc n) ≡ counted k n ++ ((k + n) ∷ [])

@@ -12,7 +12,7 @@ use lib.Dec.{ltb}
 use borrow.Author.Tests.{ltb-true, ltb-false}
 use Rattle.grammar.specs.Items.{Foot, bare, foot}
 use Rattle.records.specs.Room.{FootFits, footNumber}
-use Rattle.records.specs.Index.{spans, spanAt, cellAt}
+use Rattle.records.specs.Cells.{spans, spanAt, cellAt}
 
 -- Two digits.
 pub digits-same : (n a b r s : ℕ) → r < n → s < n → a * n + r ≡ b * n + s → (a ≡ b) × (r ≡ s)

@@ -1,18 +1,16 @@
--- Which cell covers which: a table with a number for each cell, 0 or one more than the number of a cell that has every foot of it.
--- A cell that takes over all feet of a cell it covers gets nothing new, so such a cell can be passed over.
-use Prim.Native.Nat.{ℕ, zero, suc, _-_, _*_, _≤_}
+-- Which cell covers which: it has every foot of the other. A cell that takes over all feet of a cell it covers gets nothing new, so such a
+-- cell can be passed over.
+use Prim.Native.Nat.{ℕ, suc, _*_, _-_, _≤_}
 use mathlib.Core.Path.{_≡_}
-use mathlib.Core.Bool.{Bool, false, cond, _||_}
 use mathlib.Core.List.{List, [], map, List·Memᴰ}
-use lib.Dec.{eqb}
-use lib.ListN.{length, getD, set}
+use lib.ListN.{length}
 use Rattle.grammar.specs.Items.{Foot}
 use Rattle.grammar.specs.ItemList.{Item, item}
 use Rattle.grammar.specs.Chart.{Record, itemOf}
 use Rattle.layout.specs.Bytes.{counted}
 use Rattle.chart_model.specs.Build.{places}
 use Rattle.records.specs.Room.{chartIn, Added}
-use Rattle.records.specs.Index.{spans, cellAt, SpanFits}
+use Rattle.records.specs.Cells.{spans, cellAt, rangeIn, coverIn, SpanFits}
 
 -- The item of some record.
 abbrev pub HasItem : List Record → Item → Type 0
@@ -29,23 +27,26 @@ pub data Coverer (n N A i j : ℕ) (b c : List Record) (B p q m : ℕ) : Type 0 
       → Coverer n N A i j b c B p q m
 
 -- While a cell is being filled: b is the chart when it was begun, c the chart now.
-pub record Covering (n N A i j : ℕ) (b c : List Record) (covers : List ℕ) : Type 0 where
-  pub long : spans n * N ≤ length covers
-  pub sound : (B p q : ℕ) → SpanFits n N B p q → (m : ℕ) → getD covers (cellAt N B p q) 0 ≡ suc m → Coverer n N A i j b c B p q m
-  pub empty : (B p q : ℕ) → SpanFits n N B p q → places b B p q ≡ [] → getD covers (cellAt N B p q) 0 ≡ 0
+pub record Covering (n N A i j : ℕ) (b c : List Record) (cells : List ℕ) : Type 0 where
+  pub long : 4 * (spans n * N) ≤ length cells
+  pub sound : (B p q : ℕ) → SpanFits n N B p q → (m : ℕ) → coverIn cells (cellAt N B p q) ≡ suc m → Coverer n N A i j b c B p q m
+  pub empty : (B p q : ℕ) → SpanFits n N B p q → places b B p q ≡ [] → coverIn cells (cellAt N B p q) ≡ 0
 
 -- Between two cells.
-pub record Covered (n N : ℕ) (b : List Record) (covers : List ℕ) : Type 0 where
-  pub long : spans n * N ≤ length covers
-  pub sound : (B p q : ℕ) → SpanFits n N B p q → (m : ℕ) → getD covers (cellAt N B p q) 0 ≡ suc m
+pub record Covered (n N : ℕ) (b : List Record) (cells : List ℕ) : Type 0 where
+  pub long : 4 * (spans n * N) ≤ length cells
+  pub sound : (B p q : ℕ) → SpanFits n N B p q → (m : ℕ) → coverIn cells (cellAt N B p q) ≡ suc m
       → (A : ℕ) × (i : ℕ) × (j : ℕ) × SpanFits n N A i j × (m ≡ cellAt N A i j) × CoversIn b b A i j B p q
-  pub empty : (B p q : ℕ) → SpanFits n N B p q → places b B p q ≡ [] → getD covers (cellAt N B p q) 0 ≡ 0
+  pub empty : (B p q : ℕ) → SpanFits n N B p q → places b B p q ≡ [] → coverIn cells (cellAt N B p q) ≡ 0
 
--- What adding records leaves where cells are passed over: the same as adding them all, and a table that is right again.
-pub record Advanced (n N room A i j base : ℕ) (rs : List Record) (old oldMarks : List ℕ) (count : ℕ) (new newMarks covers : List ℕ)
+-- What adding records leaves where cells are passed over: the same as adding them all, and a table of cells whose covers are right again and
+-- whose ranges are as they were.
+pub record Advanced (n N room A i j base : ℕ) (rs : List Record) (old oldMarks oldCells : List ℕ) (count : ℕ) (new newMarks cells : List ℕ)
     (after : ℕ) : Type 0 where
   pub added : Added n N room A i j rs old oldMarks count new newMarks after
-  pub covering : after ≤ room → Covering n N A i j (chartIn old base) (chartIn new after) covers
+  pub sameCells : length cells ≡ length oldCells
+  pub sameRanges : (cell : ℕ) → rangeIn cells cell ≡ rangeIn oldCells cell
+  pub covering : after ≤ room → Covering n N A i j (chartIn old base) (chartIn new after) cells
 
 -- A cell by its number and by the range of its records in b.
 pub record CellRange (n N : ℕ) (b : List Record) (at from to : ℕ) : Type 0 where
@@ -55,15 +56,3 @@ pub record CellRange (n N : ℕ) (b : List Record) (at from to : ℕ) : Type 0 w
   pub fits : SpanFits n N symbol start end
   pub number : at ≡ cellAt N symbol start end
   pub stands : places b symbol start end ≡ counted from (to - from)
-
--- The cell `own` covers the one at a place, by one step in the table or by two.
-abbrev pub reaches : List ℕ → ℕ → ℕ → Bool
-reaches covers own zero = false
-reaches covers own (suc m) = eqb m own || eqb (getD covers m 0) (suc own)
-
-abbrev pub coveredIn : List ℕ → ℕ → ℕ → Bool
-coveredIn covers own at = reaches covers own (getD covers at 0)
-
--- The table once a place was looked at: where the cell `own` covers it, by another cell or not, that is noted there.
-abbrev pub notedAnew : List ℕ → ℕ → ℕ → List ℕ
-notedAnew covers own at = cond (coveredIn covers own at) (set covers at (suc own)) covers

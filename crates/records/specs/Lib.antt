@@ -1,3 +1,4 @@
-pub mod Index
+pub mod Cells
 pub mod Room
 pub mod Cover
+pub mod Filling

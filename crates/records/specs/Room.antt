@@ -15,11 +15,11 @@ use Rattle.layout.specs.Card.{maxNonterminals, maxIndices}
 use Rattle.layout.specs.Line.{mostWords}
 pub use Rattle.layout.specs.Records.{recordBytes, chartBytes, asFoot, footThere, recordAt, chartIn}
 use Rattle.chart_model.specs.Build.{footAt, addEach}
-use Rattle.records.specs.declared.record.Cell.{Cell}
+use Rattle.records.specs.declared.record.OpenCell.{OpenCell}
 use Rattle.records.specs.declared.record.Foot as declared
 use Rattle.records.specs.declared.record.Origin.{Origin}
 use Rattle.bits.specs.Bits.{holdsBit}
-use Rattle.records.specs.Index.{spans, cellAt}
+use Rattle.records.specs.Cells.{spans, cellAt}
 
 -- The same as the model has it: a count above the room says that an item did not fit.
 abbrev pub stateOf : ℕ → List ℕ → ℕ → Option (List Record)
@@ -29,7 +29,7 @@ stateOf room bytes count = cond (leb count room) (some (chartIn bytes count)) no
 abbrev pub footFrom : declared.Foot → Foot
 footFrom f = asFoot (f .index) (f .symbol) (f .from) (f .to)
 
-abbrev pub recordFrom : Cell → declared.Foot → Origin → Record
+abbrev pub recordFrom : OpenCell → declared.Foot → Origin → Record
 recordFrom c f o =
     recorded (item (c .left) (c .from) (c .to) (footFrom f)) (o .production) (o .side) (o .dependent) (o .continuation)
 

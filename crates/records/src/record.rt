@@ -6,8 +6,14 @@ ghost use lib.ListN.{length, take, drop};
 ghost use Rattle.layout.specs.Bytes.{lowByte, highByte};
 ghost use Rattle.records.specs.Room.{footFields, recordFrom, Writable, withNumber, numberThere};
 
-// A, i and j of the items of one cell.
-pub struct Cell {
+// The cell that is being filled: A over i to j; its number among the cells; and what bounds it: the line's words, the card's nonterminals,
+// the items that the room holds, and the count of records at which the cell was begun.
+pub struct OpenCell {
+    pub words: usize,
+    pub symbols: usize,
+    pub room: usize,
+    pub base: usize,
+    pub number: usize,
     pub left: u8,
     pub from: u8,
     pub to: u8,
@@ -82,26 +88,33 @@ fn put_all(room: &mut [u8], at: usize, src: &[u8; RECORD])
     }
 }
 
-pub fn put_record(chart: &mut [u8], m: usize, c: Cell, f: Foot, number: u16, o: Origin)
-    requires { ⌜ (16 * m + 16 ≤ length (now chart)) × Writable f ⌝ }
-    ensures { λ r. ⌜ now (chart .exit) ≡ take (16 * m) (now (chart .entry)) ++ (withNumber number (recordFrom c f o) ++ drop (16 * m + 16)
-        (now (chart .entry))) ⌝ }
+pub fn put_record(
+    chart: &mut [u8],
+    m: usize,
+    cell: OpenCell,
+    foot: Foot,
+    number: u16,
+    origin: Origin,
+)
+    requires { ⌜ (16 * m + 16 ≤ length (now chart)) × Writable foot ⌝ }
+    ensures { λ r. ⌜ now (chart .exit) ≡ take (16 * m) (now (chart .entry)) ++ (withNumber number (recordFrom cell foot origin)
+        ++ drop (16 * m + 16) (now (chart .entry))) ⌝ }
 {
     let bytes = [
-        c.left,
-        f.index,
-        c.from,
-        c.to,
-        f.symbol,
-        f.from,
-        f.to,
-        o.production,
-        low(o.side),
-        high(o.side),
-        low(o.dependent),
-        high(o.dependent),
-        low(o.continuation),
-        high(o.continuation),
+        cell.left,
+        foot.index,
+        cell.from,
+        cell.to,
+        foot.symbol,
+        foot.from,
+        foot.to,
+        origin.production,
+        low(origin.side),
+        high(origin.side),
+        low(origin.dependent),
+        high(origin.dependent),
+        low(origin.continuation),
+        high(origin.continuation),
         low(number),
         high(number),
     ];

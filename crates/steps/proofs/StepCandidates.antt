@@ -18,17 +18,18 @@ use Rattle.card.specs.declared.Production.{Production}
 use Rattle.card.specs.declared.Production.the-variants.{Word, SideFirst, SideLast}
 use Rattle.card.specs.Productions.{actionFrom, ruleFrom}
 use Rattle.chart_model.specs.Build.{flatUp, places, barePlaces, footAt, takenFrom, keptFrom, continued, givenFoot, givenFrom, byAction, byRule}
-use Rattle.records.specs.declared.record.Cell.{Cell}
+use Rattle.records.specs.declared.record.OpenCell.{OpenCell}
 use Rattle.records.specs.declared.record.Foot as declared
-use Rattle.records.specs.declared.index.Range.{Range}
+use Rattle.records.specs.declared.cells.Range.{Range}
 use Rattle.records.specs.Room.{asFoot, footThere, footFields, chartIn, FootFits, Writable, footNumber, numberThere, Working, Added}
-use Rattle.records.specs.Index.{cellAt, rangeIn, bareIn, SpanFits, Indexed}
+use Rattle.records.specs.Cells.{cellAt, rangeIn, bareIn, SpanFits, Indexed}
 use Rattle.records.specs.Cover.{CellRange}
 use Rattle.records.proofs.RoomLaws.{chart-length, foot-at, number-there}
 use Rattle.records.proofs.TableLaws.{number-cell}
 use Rattle.steps.specs.declared.element.Element.{Element}
 use Rattle.steps.specs.declared.element.Elements.{Elements}
-use Rattle.steps.specs.Fits.{ActionFits, RuleFits}
+use Rattle.steps.specs.Fits.{RuleFits}
+use Rattle.steps.specs.Candidates.{meets, produces, ElementsFit}
 use Rattle.steps.proofs.StepLaws.{concatMap-counted, added-none, added-as, foot-fits}
 
 -- A take has one record, from the first place, if there is a place.
@@ -44,18 +45,18 @@ module _ (A i j p x : ℕ) (φ : Foot) (from to : ℕ) where
       ap (λ (m : ℕ). takenFrom A i j p x φ (counted from m)) e
 
 -- The table read at a cell: the positions of the cell's records and of its bare item, none of them past the base.
-module _ {n N : ℕ} (chart : List ℕ) (base : ℕ) {index : List ℕ} (t : Indexed n N (chartIn chart base) index) (at : ℕ) {R : Range}
-    (r : R ≡ rangeIn index at) where
+module _ {n N : ℕ} (chart : List ℕ) (base : ℕ) {cells : List ℕ} (t : Indexed n N (chartIn chart base) cells) (at : ℕ) {R : Range}
+    (r : R ≡ rangeIn cells at) where
   pub to-below : R .to ≤ base
-  to-below = subst (λ (R : Range). R .to ≤ base) (sym r) (omega (arith, t .within (3 * at + 1), chart-length chart base))
+  to-below = subst (λ (R : Range). R .to ≤ base) (sym r) (omega (arith, t .toWithin at, chart-length chart base))
 
   pub bare-below : R .bare ≤ base
-  bare-below = subst (λ (R : Range). R .bare ≤ base) (sym r) (omega (arith, t .within (3 * at + 2), chart-length chart base))
+  bare-below = subst (λ (R : Range). R .bare ≤ base) (sym r) (omega (arith, t .bareWithin at, chart-length chart base))
 
-module _ {n N : ℕ} (chart : List ℕ) (base : ℕ) {index : List ℕ} (t : Indexed n N (chartIn chart base) index) {B p q : ℕ}
-    (s : SpanFits n N B p q) {at : ℕ} (e : at ≡ cellAt N B p q) {R : Range} (r : R ≡ rangeIn index at) where
-  read-range : R ≡ rangeIn index (cellAt N B p q)
-  read-range = r ∙ ap (rangeIn index) e
+module _ {n N : ℕ} (chart : List ℕ) (base : ℕ) {cells : List ℕ} (t : Indexed n N (chartIn chart base) cells) {B p q : ℕ}
+    (s : SpanFits n N B p q) {at : ℕ} (e : at ≡ cellAt N B p q) {R : Range} (r : R ≡ rangeIn cells at) where
+  read-range : R ≡ rangeIn cells (cellAt N B p q)
+  read-range = r ∙ ap (rangeIn cells) e
 
   pub range-places : places (chartIn chart base) B p q ≡ counted (R .from) (R .to - R .from)
   range-places =
@@ -182,47 +183,35 @@ module _ (f : ℕ → List Record) {l : List ℕ} (m : ℕ) (t : l ≡ bareIn m)
 abbrev Over : Element → ℕ → ℕ → ℕ → Type 0
 Over x symbol from to = (x .symbol ≡ symbol) × (x .from ≡ from) × (x .to ≡ to)
 
-module _ (b : List Record) (c : Cell) (k p : ℕ) where
-  abbrev pub made : Production → List Record
-  made rule = byRule b (c .left) (c .from) k (c .to) p (ruleFrom rule)
+module _ (b : List Record) (cell : OpenCell) (k p : ℕ) {rule : Production} where
+  pub by-word : {left word : ℕ} → rule ≡ Word left word → [] ≡ produces cell k p rule b
+  by-word e = ap (λ (r : Production). produces cell k p r b) (sym e)
 
-  abbrev pub byElements : Elements → List Record
-  byElements m =
-      concatMap (byAction b (actionFrom (m .action)) (m .dependent .symbol) (m .dependent .from) (m .dependent .to) (c .left) (c .from) (c .to) p)
-      (barePlaces b (m .side .symbol) (m .side .from) (m .side .to))
+  module _ {left side D : ℕ} {a : Action} where
+    pub first-other : rule ≡ SideFirst left a side D → (left ≡ cell .left → ⊥) → [] ≡ produces cell k p rule b
+    first-other e d = rw (e, ne-eqb left (cell .left) d, byRule)
 
-  pub by-word : {rule : Production} {left word : ℕ} → rule ≡ Word left word → [] ≡ made rule
-  by-word e = ap made (sym e)
-
-  module _ {rule : Production} {left side D : ℕ} {a : Action} where
-    pub first-other : rule ≡ SideFirst left a side D → (left ≡ c .left → ⊥) → [] ≡ made rule
-    first-other e d = rw (e, ne-eqb left (c .left) d, byRule)
-
-    pub last-other : rule ≡ SideLast left a D side → (left ≡ c .left → ⊥) → [] ≡ made rule
-    last-other e d = rw (e, ne-eqb left (c .left) d, byRule)
+    pub last-other : rule ≡ SideLast left a D side → (left ≡ cell .left → ⊥) → [] ≡ produces cell k p rule b
+    last-other e d = rw (e, ne-eqb left (cell .left) d, byRule)
 
     module _ {x y : Element} {m : Elements} (met : m ≡ record { side = x; action = a; dependent = y }) where
-      pub first-same : rule ≡ SideFirst left a side D → left ≡ c .left → Over x side (c .from) k → Over y D k (c .to)
-          → byElements m ≡ made rule
-      first-same e d (s, t, u) (v, w, z) = rw (met, e, eq-eqb left (c .left) d, byRule, s, t, u, v, w, z)
+      pub first-same : rule ≡ SideFirst left a side D → left ≡ cell .left → Over x side (cell .from) k → Over y D k (cell .to)
+          → meets cell p m b ≡ produces cell k p rule b
+      first-same e d (s, t, u) (v, w, z) = rw (met, e, eq-eqb left (cell .left) d, byRule, s, t, u, v, w, z)
 
-      pub last-same : rule ≡ SideLast left a D side → left ≡ c .left → Over x side k (c .to) → Over y D (c .from) k
-          → byElements m ≡ made rule
-      last-same e d (s, t, u) (v, w, z) = rw (met, e, eq-eqb left (c .left) d, byRule, s, t, u, v, w, z)
+      pub last-same : rule ≡ SideLast left a D side → left ≡ cell .left → Over x side k (cell .to) → Over y D (cell .from) k
+          → meets cell p m b ≡ produces cell k p rule b
+      last-same e d (s, t, u) (v, w, z) = rw (met, e, eq-eqb left (cell .left) d, byRule, s, t, u, v, w, z)
 
-abbrev pub ElementsFit : ℕ → ℕ → Elements → Type 0
-ElementsFit n N m =
-    ActionFits (actionFrom (m .action)) × SpanFits n N (m .side .symbol) (m .side .from) (m .side .to)
-    × SpanFits n N (m .dependent .symbol) (m .dependent .from) (m .dependent .to)
-
-module _ (n N : ℕ) (c : Cell) (k : ℕ) (rule : Production) (fits : RuleFits N (ruleFrom rule)) (l : c .from < k) (u : k < c .to)
-    (w : c .to ≤ n) {left side D : ℕ} {a : Action} {x y : Element} {m : Elements} (met : m ≡ record { side = x; action = a; dependent = y }) where
-  pub first-fits : rule ≡ SideFirst left a side D → Over x side (c .from) k → Over y D k (c .to) → ElementsFit n N m
+module _ (cell : OpenCell) (k : ℕ) (rule : Production) (fits : RuleFits (cell .symbols) (ruleFrom rule)) (l : cell .from < k) (u : k < cell .to)
+    (w : cell .to ≤ cell .words) {left side D : ℕ} {a : Action} {x y : Element} {m : Elements}
+    (met : m ≡ record { side = x; action = a; dependent = y }) where
+  pub first-fits : rule ≡ SideFirst left a side D → Over x side (cell .from) k → Over y D k (cell .to) → ElementsFit cell m
   first-fits e s d =
-      let (_, f, g, h, _) = subst (λ (r : Production). RuleFits N (ruleFrom r)) e fits in
-      rw met (f, (omega arith, omega arith, omega arith), (omega arith, omega arith, omega arith))
+      let (_, f, g, h, _) = subst (λ (r : Production). RuleFits (cell .symbols) (ruleFrom r)) e fits in
+      rw met (record { action = f; side = (omega arith, omega arith, omega arith); dependent = (omega arith, omega arith, omega arith) })
 
-  pub last-fits : rule ≡ SideLast left a D side → Over x side k (c .to) → Over y D (c .from) k → ElementsFit n N m
+  pub last-fits : rule ≡ SideLast left a D side → Over x side k (cell .to) → Over y D (cell .from) k → ElementsFit cell m
   last-fits e s d =
-      let (_, f, _, h, g) = subst (λ (r : Production). RuleFits N (ruleFrom r)) e fits in
-      rw met (f, (omega arith, omega arith, omega arith), (omega arith, omega arith, omega arith))
+      let (_, f, _, h, g) = subst (λ (r : Production). RuleFits (cell .symbols) (ruleFrom r)) e fits in
+      rw met (record { action = f; side = (omega arith, omega arith, omega arith); dependent = (omega arith, omega arith, omega arith) })

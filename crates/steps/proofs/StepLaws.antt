@@ -6,8 +6,8 @@ use native.Mathlib.Omega.{arith}
 use mathlib.Core.Path.{_≡_, refl, sym, _∙_, ap, subst}
 use mathlib.Core.List.{List, [], _∷_, _++_, append-nil, append-assoc}
 use mathlib.Core.Option.{none, some}
-use lib.ListN.{length, take, drop}
-use lib.Seq.{take-take, drop-drop}
+use lib.ListN.{length, drop}
+use lib.Seq.{drop-drop}
 use Rattle.grammar.specs.Lists.{concatMap}
 use Rattle.grammar.specs.Items.{Foot}
 use Rattle.grammar.specs.ItemList.{item}
@@ -15,16 +15,15 @@ use Rattle.grammar.specs.Chart.{Record, recorded}
 use Rattle.layout.specs.Bytes.{counted}
 use Rattle.chart_model.specs.Build.{flatUp, footAt, addEach}
 use Rattle.chart_model.proofs.BuildLaws.{flatUp-more, addEach-append, addEach-none}
-use Rattle.chart_model.proofs.Absent.{flatUp-none}
+use Rattle.records.specs.declared.record.OpenCell.{OpenCell}
 use Rattle.records.specs.declared.record.Foot as declared
-use Rattle.records.specs.Room.{footThere, footFrom, footFields, chartIn, stateOf, FootFits, Writable, footNumber, numberThere, Working, Added}
+use Rattle.records.specs.declared.cells.Range.{Range}
+use Rattle.records.specs.Room.{footThere, footFields, chartIn, stateOf, FootFits, numberThere, Working, Added}
+use Rattle.records.specs.Filling.{begunWith, WorksOn, AddedTo, FootGiven, Adding}
 use Rattle.records.proofs.AddLaws.{state-fits, state-over}
-use Rattle.records.proofs.RoomLaws.{chart-length, chart-kept-below, foot-at, number-there, writable-there}
+use Rattle.records.proofs.RoomLaws.{take-less, chart-length, chart-kept-below, foot-at, number-there, writable-there}
 
--- What two lists share at their start they share at a shorter start; and so at their end.
-take-less : (a b : ℕ) (x y : List ℕ) → a ≤ b → take b x ≡ take b y → take a x ≡ take a y
-take-less a b x y h e = sym (take-take a b x h) ∙ (ap (take a) e ∙ take-take a b y h)
-
+-- What two lists share at their end they share at a shorter end.
 drop-less : (a b : ℕ) (x y : List ℕ) → a ≤ b → drop a x ≡ drop a y → drop b x ≡ drop b y
 drop-less a b x y h e =
     let s : a + (b - a) ≡ b = omega arith in
@@ -43,8 +42,6 @@ module _ {A : Type 0} (f : ℕ → List A) where
   pub concatMap-counted : (from m : ℕ) → concatMap f (counted from m) ≡ flatUp f from m
   concatMap-counted from zero = refl
   concatMap-counted from (suc m) = ap (λ (l : List A). f from ++ l) (concatMap-counted (suc from) m) ∙ sym (flatUp-first from m)
-
--- A count within the room, and past it.
 
 module _ {n N room A i j : ℕ} where
   -- Nothing is added.
@@ -78,7 +75,7 @@ module _ {n N room A i j : ℕ} where
         sameRoom = b .sameRoom ∙ a .sameRoom;
         sameMarks = b .sameMarks ∙ a .sameMarks;
         grown = omega arith;
-        kept = take-less (16 * count) (16 * total) new mid (omega arith) (b .kept) ∙ a .kept;
+        kept = take-less mid new (16 * count) (16 * total) (omega arith) (b .kept) ∙ a .kept;
         model = b .model
             ∙ (ap (addEach room ss) (sym (state-fits room mid total h) ∙ a .model)
             ∙ sym (addEach-append room rs ss (some (chartIn old count))));
@@ -134,21 +131,13 @@ module _ {n N room A i j : ℕ} {f : ℕ → List Record} {from to : ℕ} where
 
   module _ {old oldMarks mid midMarks : List ℕ} {count y total : ℕ}
       (l : Looped n N room A i j f from to old oldMarks count mid midMarks y total) where
-    -- The room and the marks at the place y, which stands below the count if `to` is at most the base.
+    -- The room and the marks at the place y.
     pub loop-works : Working n N room A i j mid midMarks total
     loop-works = l .sofar .works (l .fits)
 
-    pub loop-below : {base : ℕ} → y < to → to ≤ base → base ≤ count → y < total
-    loop-below h u v = omega (arith, l .sofar .grown)
-
-    -- The records at the begin are as they were, and so what is made from them.
+    -- The records at the begin are as they were.
     pub loop-kept : (base : ℕ) → base ≤ count → chartIn mid base ≡ chartIn old base
     loop-kept base v = chart-kept base v (l .sofar)
-
-    pub loop-same : {new newMarks : List ℕ} {after : ℕ} (F : List Record → List Record) (base : ℕ) → base ≤ count
-        → Added n N room A i j (F (chartIn mid base)) mid midMarks total new newMarks after
-        → Added n N room A i j (F (chartIn old base)) mid midMarks total new newMarks after
-    loop-same F base v a = added-as (ap F (loop-kept base v)) a
 
     -- The loop ends at `to`, or did not begin.
     pub loop-end : to ≤ y → Added n N room A i j (flatUp f from (to - from)) old oldMarks count mid midMarks total
@@ -156,20 +145,6 @@ module _ {n N room A i j : ℕ} {f : ℕ → List Record} {from to : ℕ} where
       where
         all-passed : y - from ≡ to - from
         all-passed = omega arith
-
-    -- So it does where the places that are left have no candidates.
-    pub loop-rest : ((k : ℕ) → y ≤ k → k < to → f k ≡ [])
-        → Added n N room A i j (flatUp f from (to - from)) old oldMarks count mid midMarks total
-    loop-rest empty =
-        added-as (sym (append-nil (flatUp f from (y - from))) ∙ (ap (λ (t : List Record). flatUp f from (y - from) ++ t)
-        (sym (flatUp-none f (from + (y - from)) left λ k a b. empty k (omega arith) (omega arith)))
-        ∙ (sym (flatUp-add f from (y - from) left) ∙ ap (flatUp f from) all))) (l .sofar)
-      where
-        left : ℕ
-        left = to - from - (y - from)
-
-        all : y - from + left ≡ to - from
-        all = omega arith
 
     module _ {new newMarks : List ℕ} {after : ℕ} (h : y < to) (b : Added n N room A i j (f y) mid midMarks total new newMarks after) where
       one-more : Added n N room A i j (flatUp f from (y + 1 - from)) old oldMarks count new newMarks after
@@ -199,10 +174,6 @@ module _ {n N room A i j : ℕ} {f : ℕ → List Record} {from to : ℕ} where
           all : y + 1 - from + left ≡ to - from
           all = omega arith
 
-    -- A place with no candidates.
-    pub loop-skip : y < to → f y ≡ [] → Looped n N room A i j f from to old oldMarks count mid midMarks (y + 1) total
-    loop-skip h e = loop-turn h (added-as (sym e) (added-none (l .sofar .works (l .fits)))) (l .fits)
-
 -- A record below the count: its foot fits, and is the one that it had when the cell was begun.
 module _ {n N room A i j : ℕ} where
   pub foot-fits : {chart marks : List ℕ} {count : ℕ} (y : ℕ) → Working n N room A i j chart marks count → y < count
@@ -215,24 +186,44 @@ module _ {n N room A i j : ℕ} where
   foot-kept {old = old} {new = new} base y h l a =
       ap (λ (b : List Record). footAt b y) (sym (chart-kept base l a)) ∙ foot-at new base y h
 
-  -- As the code reads it, its foot may be written again, and the number that it reads is the foot's.
-  pub read-again : {chart marks : List ℕ} {count number : ℕ} {f : declared.Foot} (y : ℕ) → Working n N room A i j chart marks count
-      → y < count → f ≡ footFields chart y → number ≡ numberThere chart y
-      → FootFits n N (footFrom f) × Writable f × (number ≡ footNumber n N (footFrom f))
-  read-again {chart} {count = count} {number} y w h e d =
-      subst (λ (f : declared.Foot). FootFits n N (footFrom f) × Writable f × (number ≡ footNumber n N (footFrom f))) (sym e)
-      (foot-fits y w h, writable-there n N chart count (w .exact) y h, d ∙ number-there n N chart count (w .exact) y h)
-
   -- Its bytes are there.
   pub record-there : {chart marks : List ℕ} {count : ℕ} (y : ℕ) → Working n N room A i j chart marks count → y < count
       → 16 * y + 16 ≤ length chart
   record-there y w h = omega (arith, w .roomThere, w .countFits)
 
-  -- In a loop: a record that takes its foot from the one at y, read in the present room, takes it from the records at the begin.
-  pub loop-foot : {f : ℕ → List Record} {from to : ℕ} {old oldMarks mid midMarks new newMarks : List ℕ} {count y total after : ℕ}
-      {φ : Foot} {p x d z : ℕ} (base : ℕ) → Looped n N room A i j f from to old oldMarks count mid midMarks y total → y < to → to ≤ base
-      → base ≤ count → φ ≡ footThere mid y
-      → Added n N room A i j (recorded (item A i j φ) p x d z ∷ []) mid midMarks total new newMarks after
-      → Added n N room A i j (recorded (item A i j (footAt (chartIn old base) y)) p x d z ∷ []) mid midMarks total new newMarks after
-  loop-foot {y = y} {p = p} {x} {d} {z} base l h u v e b =
-      added-as (ap (λ (φ : Foot). recorded (item A i j φ) p x d z ∷ []) (e ∙ sym (foot-kept base y (omega arith) v (l .sofar)))) b
+-- As the code reads it, its foot may be written again, and the number that it reads is the foot's.
+pub read-again : (cell : OpenCell) {chart marks : List ℕ} {count number : ℕ} {f : declared.Foot} (y : ℕ) → WorksOn cell chart marks count
+    → y < count → f ≡ footFields chart y → number ≡ numberThere chart y → FootGiven cell f number
+read-again cell {chart} {count = count} {number} y w h e d =
+    subst (λ (f : declared.Foot). FootGiven cell f number) (sym e) record {
+      fits = foot-fits y w h;
+      writable = writable-there (cell .words) (cell .symbols) chart count (w .exact) y h;
+      numbered = d ∙ number-there (cell .words) (cell .symbols) chart count (w .exact) y h;
+    }
+
+-- A loop over a range that adds one record at each place, with the foot that stands there: what the calls of a turn ask, and that the foot, read
+-- in the present room, is the one that stood there when the cell was begun.
+module _ {cell : OpenCell} {range : Range} {old oldMarks : List ℕ} {count : ℕ} (q : Adding cell old oldMarks range count)
+    {f : ℕ → List Record} {mid midMarks : List ℕ} {y total : ℕ}
+    (l : Looped (cell .words) (cell .symbols) (cell .room) (cell .left) (cell .from) (cell .to) f (range .from) (range .to) old oldMarks count
+    mid midMarks y total) (h : y < range .to) where
+  below : y < total
+  below = omega (arith, q .begun, q .below, l .sofar .grown)
+
+  pub turn-there : 16 * y + 16 ≤ length mid
+  turn-there = record-there y (loop-works l) below
+
+  pub turn-small : y < 65535
+  turn-small = omega (arith, below, l .fits, q .works .roomSmall)
+
+  pub turn-asks : {number : ℕ} {foot : declared.Foot} → foot ≡ footFields mid y → number ≡ numberThere mid y
+      → WorksOn cell mid midMarks total × FootGiven cell foot number
+  turn-asks e d = (loop-works l, read-again cell y (loop-works l) below e d)
+
+  pub turn-adds : {new newMarks : List ℕ} {after : ℕ} {φ : Foot} {p x d z : ℕ} → φ ≡ footThere mid y
+      → AddedTo cell (recorded (item (cell .left) (cell .from) (cell .to) φ) p x d z ∷ []) mid midMarks total new newMarks after
+      → AddedTo cell (recorded (item (cell .left) (cell .from) (cell .to) (footAt (begunWith cell old) y)) p x d z ∷ [])
+      mid midMarks total new newMarks after
+  turn-adds {p = p} {x} {d} {z} e b =
+      let kept = foot-kept (cell .base) y (omega (arith, q .below)) (q .begun) (l .sofar) in
+      added-as (ap (λ (φ : Foot). recorded (item (cell .left) (cell .from) (cell .to) φ) p x d z ∷ []) (e ∙ sym kept)) b

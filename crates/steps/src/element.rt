@@ -1,7 +1,7 @@
-// The two elements of a production that meet at a place k of a cell.
+// The two elements of a production that meet at a split of a cell, and what is known of a step once its side is found.
 use card::Action;
 use octets::wide;
-use records::record::Cell;
+use records::record::OpenCell;
 ghost use mathlib.Core.Path.{_≡_};
 
 // A nonterminal over a stretch: a side or a dependent. Whole numbers, by which the table of cells is asked.
@@ -18,24 +18,30 @@ pub struct Elements {
     pub dependent: Element,
 }
 
-// The one that stands first: from the cell's start to k.
-pub fn first_at(c: Cell, k: u8, symbol: u8) -> Element
-    ensures { λ r. ⌜ (r .symbol ≡ symbol) × (r .from ≡ c .from) × (r .to ≡ k) ⌝ }
+// The production of a step, and the position of its side.
+pub struct Side {
+    pub production: u8,
+    pub position: u16,
+}
+
+// The element that stands first: from the cell's start to the split.
+pub fn first_at(cell: OpenCell, k: u8, symbol: u8) -> Element
+    ensures { λ r. ⌜ (r .symbol ≡ symbol) × (r .from ≡ cell .from) × (r .to ≡ k) ⌝ }
 {
     Element {
         symbol: wide(symbol),
-        from: wide(c.from),
+        from: wide(cell.from),
         to: wide(k),
     }
 }
 
-// The one that stands last: from k to the cell's end.
-pub fn last_at(c: Cell, k: u8, symbol: u8) -> Element
-    ensures { λ r. ⌜ (r .symbol ≡ symbol) × (r .from ≡ k) × (r .to ≡ c .to) ⌝ }
+// The one that stands last: from the split to the cell's end.
+pub fn last_at(cell: OpenCell, k: u8, symbol: u8) -> Element
+    ensures { λ r. ⌜ (r .symbol ≡ symbol) × (r .from ≡ k) × (r .to ≡ cell .to) ⌝ }
 {
     Element {
         symbol: wide(symbol),
         from: wide(k),
-        to: wide(c.to),
+        to: wide(cell.to),
     }
 }

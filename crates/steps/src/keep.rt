@@ -1,44 +1,39 @@
 // Keep: the feet of a cell of dependents.
-use crate::hand::Side;
-use records::add::Sizes;
-use records::record::Cell;
+use crate::element::Side;
+use records::cells::Range;
 use records::record::NOWHERE;
+use records::record::OpenCell;
 use records::record::Origin;
-ghost use Prim.Native.Nat.{_-_, _≤_};
-ghost use Rattle.chart_model.specs.Build.{flatUp, keptFrom};
-ghost use Rattle.records.specs.Room.{chartIn, Working, Added};
-ghost use Rattle.records.specs.Index.{SpanFits};
-ghost use Rattle.records.specs.Cover.{Covering, CellRange, Advanced};
+ghost use Prim.Native.Nat.{_≤_};
+ghost use Rattle.records.specs.Filling.{begunWith, overRange, Adding, AddedTo, Filling, RangeAt, AdvancedTo};
+ghost use Rattle.steps.specs.Candidates.{keeps};
 
 // Each dependent's foot.
 fn keep_each(
     chart: &mut [u8],
     marks: &mut [u8],
-    z: Sizes,
-    c: Cell,
-    s: Side,
-    from: usize,
-    to: usize,
+    cell: OpenCell,
+    side: Side,
+    range: Range,
     count: usize,
 ) -> usize
-    requires { ⌜ Working (z .words) (z .symbols) (z .room) (c .left) (c .from) (c .to) (now chart) (now marks) count × (to ≤ z .base) × (z .base ≤ count) ⌝ }
-    ensures { λ r. ⌜ Added (z .words) (z .symbols) (z .room) (c .left) (c .from) (c .to)
-        (flatUp (keptFrom (chartIn (now (chart .entry)) (z .base)) (c .left) (c .from) (c .to) (s .production) (s .position)) from (to - from))
+    requires { ⌜ Adding cell (now chart) (now marks) range count ⌝ }
+    ensures { λ r. ⌜ AddedTo cell (overRange (keeps cell side (begunWith cell (now (chart .entry)))) range)
         (now (chart .entry)) (now (marks .entry)) count (now (chart .exit)) (now (marks .exit)) r ⌝ }
 {
-    let mut y = from;
+    let mut y = range.from;
     let mut total = count;
-    while y < to {
-        let f = records::record::foot_at(chart, y);
+    while y < range.to {
+        let foot = records::record::foot_at(chart, y);
         let number = records::record::number_at(chart, y);
         let origin = Origin {
-            production: s.production,
-            side: s.position,
+            production: side.production,
+            side: side.position,
             dependent: y as u16,
             continuation: NOWHERE,
         };
-        total = records::add::add(chart, marks, z, c, f, number, origin, total);
-        if z.room < total {
+        total = records::add::add(chart, marks, cell, foot, number, origin, total);
+        if cell.room < total {
             return total;
         }
         y += 1;
@@ -46,38 +41,31 @@ fn keep_each(
     total
 }
 
-// The same for the dependents of the cell at a place, which is passed over where the cell in hand covers it.
+// The same for the dependents of the cell of a number, which is passed over where the open cell covers it, and is covered by it then.
 pub fn keep_all(
     chart: &mut [u8],
     marks: &mut [u8],
-    covers: &mut [u16],
-    z: Sizes,
-    c: Cell,
-    s: Side,
-    at: usize,
-    from: usize,
-    to: usize,
+    cells: &mut [u16],
+    cell: OpenCell,
+    side: Side,
+    number: usize,
+    range: Range,
     count: usize,
 ) -> usize
-    requires { ⌜ Working (z .words) (z .symbols) (z .room) (c .left) (c .from) (c .to) (now chart) (now marks) count × (to ≤ z .base)
-        × (z .base ≤ count) × CellRange (z .words) (z .symbols) (chartIn (now chart) (z .base)) at from to
-        × Covering (z .words) (z .symbols) (c .left) (c .from) (c .to) (chartIn (now chart) (z .base)) (chartIn (now chart) count) (now covers)
-        × SpanFits (z .words) (z .symbols) (c .left) (c .from) (c .to) ⌝ }
-    ensures { λ r. ⌜ Advanced (z .words) (z .symbols) (z .room) (c .left) (c .from) (c .to) (z .base)
-        (flatUp (keptFrom (chartIn (now (chart .entry)) (z .base)) (c .left) (c .from) (c .to) (s .production) (s .position)) from (to - from))
-        (now (chart .entry)) (now (marks .entry)) count (now (chart .exit)) (now (marks .exit)) (now (covers .exit)) r ⌝ }
+    requires { ⌜ Filling cell (now chart) (now marks) (now cells) count × RangeAt cell (now chart) number range × (range .to ≤ cell .base) ⌝ }
+    ensures { λ r. ⌜ AdvancedTo cell (overRange (keeps cell side (begunWith cell (now (chart .entry)))) range)
+        (now (chart .entry)) (now (marks .entry)) (now (cells .entry)) count (now (chart .exit)) (now (marks .exit)) (now (cells .exit)) r ⌝ }
 {
-    if to <= from {
+    if range.to <= range.from {
         return count;
     }
-    let own = crate::hand::own_at(z, c);
-    if records::cover::is_covered(covers, own, at) {
+    if records::cells::is_covered(cells, cell.number, number) {
         return count;
     }
-    let total = keep_each(chart, marks, z, c, s, from, to, count);
-    if z.room < total {
+    let total = keep_each(chart, marks, cell, side, range, count);
+    if cell.room < total {
         return total;
     }
-    records::cover::note(covers, own, at);
+    records::cells::note_cover(cells, cell.number, number);
     total
 }

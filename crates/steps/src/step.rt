@@ -1,121 +1,99 @@
 // The deduction steps of one production over one split. In each contract the records that may be added are those of the model
-// (chart_model), made from the records that were there when the cell was begun.
+// (chart_model), made from the records that stood when the cell was begun.
 use crate::element::Element;
 use crate::element::Elements;
+use crate::element::Side;
 use crate::element::first_at;
 use crate::element::last_at;
-use crate::hand::Side;
 use card::Action;
 use card::Card;
 use card::Production;
 use octets::wide;
-use records::add::Sizes;
-use records::record::Cell;
+use records::cells::Range;
 use records::record::Foot;
 use records::record::NOWHERE;
+use records::record::OpenCell;
 use records::record::Origin;
-ghost use mathlib.Core.Path.{_≡_};
-ghost use Prim.Native.Nat.{_-_, _≤_, _<_};
+ghost use Prim.Native.Nat.{_-_, _<_};
 ghost use Rattle.layout.specs.Bytes.{counted};
-ghost use Rattle.grammar.specs.Lists.{concatMap};
 ghost use Rattle.card.specs.Productions.{actionFrom, ruleFrom};
-ghost use Rattle.chart_model.specs.Build.{takenFrom, byAction, byRule, barePlaces};
-ghost use Rattle.records.specs.Room.{chartIn, footFrom, FootFits, Writable, footNumber, Working, Added};
-ghost use Rattle.records.specs.Index.{SpanFits, Indexed};
-ghost use Rattle.records.specs.Cover.{Covering, Advanced};
+ghost use Rattle.records.specs.Room.{footFrom};
+ghost use Rattle.records.specs.Filling.{begunWith, FootGiven, Adding, AddedTo, Filling, AdvancedTo};
 ghost use Rattle.steps.specs.Fits.{ActionFits, RuleFits};
+ghost use Rattle.steps.specs.Candidates.{takes, acts, meets, produces, ElementFits, ElementsFit};
 
 // Take: one dependent is enough, whatever it is. The number is the foot's.
 fn take_one(
     chart: &mut [u8],
     marks: &mut [u8],
-    z: Sizes,
-    c: Cell,
-    s: Side,
-    f: Foot,
+    cell: OpenCell,
+    side: Side,
+    foot: Foot,
     number: usize,
-    from: usize,
-    to: usize,
+    range: Range,
     count: usize,
 ) -> usize
-    requires { ⌜ Working (z .words) (z .symbols) (z .room) (c .left) (c .from) (c .to) (now chart) (now marks) count × (to ≤ z .base)
-        × (z .base ≤ count) × FootFits (z .words) (z .symbols) (footFrom f) × Writable f
-        × (number ≡ footNumber (z .words) (z .symbols) (footFrom f)) ⌝ }
-    ensures { λ r. ⌜ Added (z .words) (z .symbols) (z .room) (c .left) (c .from) (c .to)
-        (takenFrom (c .left) (c .from) (c .to) (s .production) (s .position) (footFrom f) (counted from (to - from))) (now (chart .entry))
-        (now (marks .entry)) count (now (chart .exit)) (now (marks .exit)) r ⌝ }
+    requires { ⌜ Adding cell (now chart) (now marks) range count × FootGiven cell foot number ⌝ }
+    ensures { λ r. ⌜ AddedTo cell (takes cell side (footFrom foot) (counted (range .from) (range .to - range .from)))
+        (now (chart .entry)) (now (marks .entry)) count (now (chart .exit)) (now (marks .exit)) r ⌝ }
 {
-    if to <= from {
+    let from = range.from;
+    if range.to <= from {
         return count;
     }
     let origin = Origin {
-        production: s.production,
-        side: s.position,
+        production: side.production,
+        side: side.position,
         dependent: from as u16,
         continuation: NOWHERE,
     };
-    records::add::add(chart, marks, z, c, f, number, origin, count)
+    records::add::add(chart, marks, cell, foot, number, origin, count)
 }
 
 fn by_action(
     chart: &mut [u8],
     marks: &mut [u8],
-    index: &[u16],
-    covers: &mut [u16],
-    z: Sizes,
-    c: Cell,
-    s: Side,
-    a: Action,
-    d: Element,
+    cells: &mut [u16],
+    cell: OpenCell,
+    side: Side,
+    action: Action,
+    dependent: Element,
     count: usize,
 ) -> usize
-    requires { ⌜ Working (z .words) (z .symbols) (z .room) (c .left) (c .from) (c .to) (now chart) (now marks) count × (z .base ≤ count)
-        × Indexed (z .words) (z .symbols) (chartIn (now chart) (z .base)) (now index) × ActionFits (actionFrom a)
-        × SpanFits (z .words) (z .symbols) (d .symbol) (d .from) (d .to)
-        × Covering (z .words) (z .symbols) (c .left) (c .from) (c .to) (chartIn (now chart) (z .base)) (chartIn (now chart) count) (now covers)
-        × SpanFits (z .words) (z .symbols) (c .left) (c .from) (c .to) ⌝ }
-    ensures { λ r. ⌜ Advanced (z .words) (z .symbols) (z .room) (c .left) (c .from) (c .to) (z .base)
-        (byAction (chartIn (now (chart .entry)) (z .base)) (actionFrom a) (d .symbol) (d .from) (d .to) (c .left) (c .from) (c .to) (s .production)
-        (s .position)) (now (chart .entry)) (now (marks .entry)) count (now (chart .exit)) (now (marks .exit)) (now (covers .exit)) r ⌝ }
+    requires { ⌜ Filling cell (now chart) (now marks) (now cells) count × ActionFits (actionFrom action) × ElementFits cell dependent ⌝ }
+    ensures { λ r. ⌜ AdvancedTo cell (acts cell side action dependent (begunWith cell (now (chart .entry))))
+        (now (chart .entry)) (now (marks .entry)) (now (cells .entry)) count (now (chart .exit)) (now (marks .exit)) (now (cells .exit)) r ⌝ }
 {
-    let at = records::index::cell_at(z.words, z.symbols, d.symbol, d.from, d.to);
-    let r = records::index::range_of(index, at);
-    match a {
+    let number = records::cells::cell_at(
+        cell.words,
+        cell.symbols,
+        dependent.symbol,
+        dependent.from,
+        dependent.to,
+    );
+    let range = records::cells::range_of(cells, number);
+    match action {
         Action::Take(g) => {
-            let f = Foot {
+            let foot = Foot {
                 index: g,
-                symbol: d.symbol as u8,
-                from: d.from as u8,
-                to: d.to as u8,
+                symbol: dependent.symbol as u8,
+                from: dependent.from as u8,
+                to: dependent.to as u8,
             };
-            let number = Card::MAX_INDICES * at + wide(g) - 1;
-            take_one(chart, marks, z, c, s, f, number, r.from, r.to, count)
+            let foot_number = Card::MAX_INDICES * number + wide(g) - 1;
+            take_one(chart, marks, cell, side, foot, foot_number, range, count)
         }
         Action::Keep => crate::keep::keep_all(
             chart,
             marks,
-            covers,
-            z,
-            c,
-            s,
-            at,
-            r.from,
-            r.to,
+            cells,
+            cell,
+            side,
+            number,
+            range,
             count,
         ),
-        Action::Give(g) => crate::give::give_each(
-            chart,
-            marks,
-            index,
-            covers,
-            z,
-            c,
-            s,
-            g,
-            r.from,
-            r.to,
-            count,
-        ),
+        Action::Give(g) => crate::give::give_each(chart, marks, cells, cell, side, g, range, count),
     }
 }
 
@@ -123,58 +101,51 @@ fn by_action(
 fn with_side(
     chart: &mut [u8],
     marks: &mut [u8],
-    index: &[u16],
-    covers: &mut [u16],
-    z: Sizes,
-    c: Cell,
+    cells: &mut [u16],
+    cell: OpenCell,
     p: u8,
-    side: Element,
-    a: Action,
-    d: Element,
+    met: Elements,
     count: usize,
 ) -> usize
-    requires { ⌜ Working (z .words) (z .symbols) (z .room) (c .left) (c .from) (c .to) (now chart) (now marks) count × (z .base ≤ count)
-        × Indexed (z .words) (z .symbols) (chartIn (now chart) (z .base)) (now index) × ActionFits (actionFrom a)
-        × SpanFits (z .words) (z .symbols) (d .symbol) (d .from) (d .to) × SpanFits (z .words) (z .symbols) (side .symbol) (side .from) (side .to)
-        × Covering (z .words) (z .symbols) (c .left) (c .from) (c .to) (chartIn (now chart) (z .base)) (chartIn (now chart) count) (now covers)
-        × SpanFits (z .words) (z .symbols) (c .left) (c .from) (c .to) ⌝ }
-    ensures { λ r. ⌜ Advanced (z .words) (z .symbols) (z .room) (c .left) (c .from) (c .to) (z .base)
-        (concatMap (byAction (chartIn (now (chart .entry)) (z .base)) (actionFrom a) (d .symbol) (d .from) (d .to) (c .left) (c .from) (c .to) p)
-        (barePlaces (chartIn (now (chart .entry)) (z .base)) (side .symbol) (side .from) (side .to))) (now (chart .entry)) (now (marks .entry)) count
-        (now (chart .exit)) (now (marks .exit)) (now (covers .exit)) r ⌝ }
+    requires { ⌜ Filling cell (now chart) (now marks) (now cells) count × ElementsFit cell met ⌝ }
+    ensures { λ r. ⌜ AdvancedTo cell (meets cell p met (begunWith cell (now (chart .entry))))
+        (now (chart .entry)) (now (marks .entry)) (now (cells .entry)) count (now (chart .exit)) (now (marks .exit)) (now (cells .exit)) r ⌝ }
 {
-    let at = records::index::cell_at(z.words, z.symbols, side.symbol, side.from, side.to);
-    let r = records::index::range_of(index, at);
-    let bare = r.bare;
+    let beside = met.side;
+    let action = met.action;
+    let dependent = met.dependent;
+    let number = records::cells::cell_at(
+        cell.words,
+        cell.symbols,
+        beside.symbol,
+        beside.from,
+        beside.to,
+    );
+    let range = records::cells::range_of(cells, number);
+    let bare = range.bare;
     if bare == 0 {
         return count;
     }
-    let s = Side {
+    let side = Side {
         production: p,
         position: (bare - 1) as u16,
     };
-    by_action(chart, marks, index, covers, z, c, s, a, d, count)
+    by_action(chart, marks, cells, cell, side, action, dependent, count)
 }
 
 pub fn by_production(
     chart: &mut [u8],
     marks: &mut [u8],
-    index: &[u16],
-    covers: &mut [u16],
-    z: Sizes,
-    c: Cell,
+    cells: &mut [u16],
+    cell: OpenCell,
     k: u8,
     p: u8,
     rule: Production,
     count: usize,
 ) -> usize
-    requires { ⌜ Working (z .words) (z .symbols) (z .room) (c .left) (c .from) (c .to) (now chart) (now marks) count × (z .base ≤ count)
-        × Indexed (z .words) (z .symbols) (chartIn (now chart) (z .base)) (now index) × RuleFits (z .symbols) (ruleFrom rule) × (c .from < k)
-        × (k < c .to) × (c .to ≤ z .words) × Covering (z .words) (z .symbols) (c .left) (c .from) (c .to) (chartIn (now chart) (z .base))
-        (chartIn (now chart) count) (now covers) × SpanFits (z .words) (z .symbols) (c .left) (c .from) (c .to) ⌝ }
-    ensures { λ r. ⌜ Advanced (z .words) (z .symbols) (z .room) (c .left) (c .from) (c .to) (z .base)
-        (byRule (chartIn (now (chart .entry)) (z .base)) (c .left) (c .from) k (c .to) p (ruleFrom rule)) (now (chart .entry)) (now (marks .entry))
-        count (now (chart .exit)) (now (marks .exit)) (now (covers .exit)) r ⌝ }
+    requires { ⌜ Filling cell (now chart) (now marks) (now cells) count × RuleFits (cell .symbols) (ruleFrom rule) × (cell .from < k) × (k < cell .to) ⌝ }
+    ensures { λ r. ⌜ AdvancedTo cell (produces cell k p rule (begunWith cell (now (chart .entry))))
+        (now (chart .entry)) (now (marks .entry)) (now (cells .entry)) count (now (chart .exit)) (now (marks .exit)) (now (cells .exit)) r ⌝ }
 {
     let met = match rule {
         Production::Word { left: _, word: _ } => return count,
@@ -184,13 +155,13 @@ pub fn by_production(
             side,
             dependent,
         } => {
-            if left != c.left {
+            if left != cell.left {
                 return count;
             }
             Elements {
-                side: first_at(c, k, side),
+                side: first_at(cell, k, side),
                 action,
-                dependent: last_at(c, k, dependent),
+                dependent: last_at(cell, k, dependent),
             }
         }
         Production::SideLast {
@@ -199,18 +170,15 @@ pub fn by_production(
             dependent,
             side,
         } => {
-            if left != c.left {
+            if left != cell.left {
                 return count;
             }
             Elements {
-                side: last_at(c, k, side),
+                side: last_at(cell, k, side),
                 action,
-                dependent: first_at(c, k, dependent),
+                dependent: first_at(cell, k, dependent),
             }
         }
     };
-    let side = met.side;
-    let a = met.action;
-    let d = met.dependent;
-    with_side(chart, marks, index, covers, z, c, p, side, a, d, count)
+    with_side(chart, marks, cells, cell, p, met, count)
 }

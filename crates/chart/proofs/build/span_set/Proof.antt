@@ -3,7 +3,7 @@ use Prim.Native.Nat.{_+_}
 use native.Mathlib.Omega.{arith}
 use mathlib.Core.Path.{_≡_}
 use borrow.Author.Needs.{needs}
-use Rattle.chart.proofs.RowLaws.{met-word}
+use Rattle.sets.proofs.MeetLaws.{met-word}
 use Rattle.chart.proofs.build.span_set.Statement.{statement}
 use Rattle.chart.proofs.build.span_set.Tie as tie
 
@@ -16,24 +16,49 @@ mul-words c = search needs
 element-copy-out-words : tie.Need-element-copy-out-words
 element-copy-out-words c = search needs
 
+meet-none-requires : tie.Need-meet-none-requires
+meet-none-requires c κs = search needs
+
 of-words-requires : tie.Need-of-words-requires
 of-words-requires c κs = search needs
 
+same-length : tie.Need-same-length
+same-length c = search needs
+
 returns : tie.Need-returns
 returns c =
-    let s = c .before .before .before .before in
-    let word : s .args .j ≡ s .args .i + 1 = omega (arith, c .before .before .if1 .taken, s .pre .1) in
-    record {
-      ofWords = λ _. c .of-words .ensures;
-      ofSplits = λ p k a b. absurd (omega (arith, a, b, word));
-      met = met-word word (s .pre .4);
-    }
+    let none = c .before .before .before .before in
+    let test = none .before .before .before in
+    let s = test .before .before in
+    let word : s .args .j ≡ s .args .i + 1 = omega (arith, test .if1 .taken, s .pre .1) in (
+      record {
+        ofWords = λ _. c .of-words .ensures;
+        ofSplits = λ p k a b. absurd (omega (arith, a, b, word));
+        met = met-word word (none .meet-none .ensures .0);
+      },
+      none .meet-none .ensures .1,
+    )
 
 meet-requires : tie.Need-meet-requires
 meet-requires c κs = search needs
+
+same-length-2 : tie.Need-same-length-2
+same-length-2 c = search needs
 
 returns-2 : tie.Need-returns-2
 returns-2 c = search needs
 
 pub span-set-spec : {M : Type 1} → statement M
-span-set-spec = tie.close (tie.spec sub-if1 mul-words element-copy-out-words of-words-requires returns meet-requires returns-2)
+span-set-spec =
+    tie.close
+    (tie.spec
+    sub-if1
+    mul-words
+    element-copy-out-words
+    meet-none-requires
+    of-words-requires
+    same-length
+    returns
+    meet-requires
+    same-length-2
+    returns-2)

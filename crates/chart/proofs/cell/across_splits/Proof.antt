@@ -1,225 +1,183 @@
--- `cell::across_splits` meets its contract. The loop's invariant: what the rule adds at the turns below y has been added and fits, the table
--- of covers is right, and the turns from y on are left. At the turns that are passed over the rule adds nothing. The measure is what is
--- left.
+-- `cell::across_splits` meets its contract. The loop's invariant: what the rule adds at the splits below y has been added and fits, the table of
+-- cells is right, and the splits from y on are left. At a split that is passed over all its items are there. The measure is what is left.
 use Prim.Native.Nat.{ℕ, suc, _+_, _<_}
 use native.Mathlib.Omega.{arith}
-use mathlib.Core.Path.{_≡_, sym, _∙_, ap, ap₂, subst}
-use mathlib.Core.Bool.{Bool}
-use mathlib.Core.List.{List, []}
+use mathlib.Core.Path.{_≡_, _∙_, ap}
 use Rattle.grammar.specs.Rewriting.{Rule}
-use Rattle.grammar.specs.Chart.{Record}
-use Rattle.layout.specs.Card.{maxProductions, productionCount, production}
-use Rattle.card.specs.Productions.{ruleFrom}
-use Rattle.chart_model.specs.Build.{byRule, dependentFirst, turned, ruleAt}
-use Rattle.chart_model.proofs.BuildLaws.{turned-within}
+use Rattle.layout.specs.Card.{maxProductions}
+use Rattle.card.specs.Productions.{ruleFrom, ProductionThere}
+use Rattle.card.proofs.Accepted.{view-table}
+use Rattle.chart_model.specs.Build.{byRule}
 use Rattle.bits.specs.Bits.{bitOf}
-use Rattle.records.specs.Room.{chartIn}
-use Rattle.steps.proofs.StepLaws.{loop-works, loop-kept}
-use Rattle.steps.proofs.StepCover.{Advancing, advanced-as, advance-start, advance-asks, advance-turn, advance-over, advance-rest}
 use Rattle.bits.proofs.BitSets.{bit-zero-unless, Walk, walk-start, walk-from, walk-has, walk-passed, walk-next, walk-end}
-use Rattle.chart.proofs.CardFits.{few-rules, production-there, given-fits, rule-there}
-use Rattle.chart.proofs.CellLaws.{turn-within, turn-idle, indexed-same, advance-to}
+use Rattle.records.specs.Room.{chartIn}
+use Rattle.records.specs.Filling.{begunWith}
+use Rattle.sets.proofs.CardRules.{few-rules}
+use Rattle.steps.proofs.StepCover.{Known, Advancing, advanced-as, advance-start, advance-wider, advance-filling, advance-past, advance-turn, advance-over, advance-rest-known}
+use Rattle.chart.proofs.CardFits.{production-there, production-fits}
+use Rattle.chart.proofs.CellLaws.{atSplit, left-out}
+use borrow.Author.Needs.{needs}
 use Rattle.chart.proofs.cell.across_splits.Statement.{statement}
 use Rattle.chart.proofs.cell.across_splits.Tie as tie
 
 abbrev Inv-loop : tie.InvT-loop
-Inv-loop chart₀ marks₀ index covers₀ both splits z c card table p count rule back sum turns rest₀ total₀ chart marks covers rest total =
+Inv-loop chart₀ marks₀ cells₀ sets cell card set p count table rule like served total₀ chart marks cells rest total =
     (y : ℕ)
-    × Advancing (z .words) (z .symbols) (z .room) (c .left) (c .from) (c .to) (z .base)
-    (λ b. ruleAt b (c .left) (c .from) (c .to) p (production card p)) (suc (c .from)) (c .to) chart₀ marks₀ covers₀ count
-    chart marks covers y total
-    × Walk turns rest y
+    × Advancing cell (atSplit card cell p) (suc (cell .from)) (cell .to) chart₀ marks₀ cells₀ count chart marks cells y total
+    × Walk served rest y
 
 abbrev μ-loop : tie.MeasureT-loop
-μ-loop chart₀ marks₀ index covers₀ both splits z c card table p count rule back sum turns rest₀ total₀ chart marks covers rest total = rest
+μ-loop chart₀ marks₀ cells₀ sets cell card set p count table rule like served total₀ chart marks cells rest total = rest
 
--- The rule, and its records at a turn.
-abbrev rule : tie.Start Inv-loop μ-loop → Rule
-rule c = production (c .args .card .now) (c .args .p)
+-- The production is there.
+module _ (c : tie.After-production-table Inv-loop μ-loop) where
+  abbrev begin : tie.Start Inv-loop μ-loop
+  begin = c .before .before .before .before .before .before .before
 
-abbrev by : tie.Start Inv-loop μ-loop → List Record → ℕ → List Record
-by c b = ruleAt b (c .args .c .left) (c .args .c .from) (c .args .c .to) (c .args .p) (rule c)
+  there : ProductionThere (begin .args .card .now) (c .production-table .result) (begin .args .p)
+  there =
+      production-there (begin .args .card .now) (begin .pre .1 .accepted) (begin .args .p) (begin .pre .2 .counted)
+      (c .production-table .ensures ∙ view-table (c .before .of .ensures))
 
--- The production is there, its turns lie inside the span, and at other turns it adds nothing.
-module _ (c : tie.After-turns-of Inv-loop μ-loop) where
+-- Its splits lie inside the span, and at the others all its items are there.
+module _ (c : tie.After-splits-of Inv-loop μ-loop) where
   abbrev start : tie.Start Inv-loop μ-loop
-  start = c .before .before .before .before .before .before .before .before .before .before
+  start = begin (c .before .before .before)
 
   below : start .args .p < maxProductions
-  below = omega (arith, few-rules (start .pre .3), start .pre .6)
+  below = omega (arith, few-rules (start .args .card .now) (start .pre .1 .accepted), start .pre .2 .counted)
 
-  sum-is : c .before .before .wide .result + c .before .wide2 .result ≡ start .args .c .from + start .args .c .to
-  sum-is = ap₂ (λ (x y : ℕ). x + y) (c .before .before .wide .ensures .0) (c .before .wide2 .ensures .0)
+  inside : (k : ℕ) → bitOf k (c .splits-of .result) ≡ 1 → (start .args .cell .from < k) × (k < start .args .cell .to)
+  inside k o = start .pre .1 .splits .inside k (c .splits-of .ensures .only k o)
 
-  back-is : c .before .before .before .side-is-last .result ≡ dependentFirst (rule start)
-  back-is = c .before .before .before .side-is-last .ensures ∙ ap dependentFirst (c .before .before .before .before .production .ensures)
+  known : let a = start .args in
+      (k : ℕ) → a .cell .from < k → k < a .cell .to → bitOf k (c .splits-of .result) ≡ 0
+      → Known (chartIn (a .chart .now) (a .count)) (atSplit (a .card .now) (a .cell) (a .p) (begunWith (a .cell) (a .chart .now)) k)
+  known = left-out (start .args .card .now) (start .pre .1) (start .pre .2) (c .before .like-before .ensures) (c .splits-of .ensures)
 
-  inside : (m : ℕ) → bitOf m (c .turns-of .result) ≡ 1 → (start .args .c .from < m) × (m < start .args .c .to)
-  inside = turn-within (start .args .c .from) (start .args .c .to) (start .pre .7) (c .turns-of .ensures) sum-is
-
-  idle : (m : ℕ) → start .args .c .from < m → m < start .args .c .to → bitOf m (c .turns-of .result) ≡ 0
-      → by start (chartIn (start .args .chart .now) (start .args .z .base)) m ≡ []
-  idle =
-      let a = start .args in
-      turn-idle (a .c .from) (a .c .to) (start .pre .7) (c .turns-of .ensures) sum-is (a .c .left) (rule start)
-      (rule-there (a .card .now) (productionCount (a .card .now)) (a .p) (start .pre .6)) back-is
-
--- The turn of the loop.
+-- The split of a turn.
 module _ (c : tie.After-least Inv-loop μ-loop) where
-  abbrev begun : tie.After-turns-of Inv-loop μ-loop
+  abbrev begun : tie.After-splits-of Inv-loop μ-loop
   begun = c .before .before .before
 
-  within : (start begun .args .c .from < c .least .result) × (c .least .result < start begun .args .c .to)
+  abbrev outer : tie.Start Inv-loop μ-loop
+  outer = start begun
+
+  within : (outer .args .cell .from < c .least .result) × (c .least .result < outer .args .cell .to)
   within = inside begun (c .least .result) (walk-has (c .before .before .loop .inv .2) (c .least .ensures))
 
-  passed : let a = start begun .args in
+  passed : let a = outer .args in
       let loop = c .before .before .loop in
-      Advancing (a .z .words) (a .z .symbols) (a .z .room) (a .c .left) (a .c .from) (a .c .to) (a .z .base) (by (start begun))
-      (suc (a .c .from)) (a .c .to) (a .chart .now) (a .marks .now) (a .covers .now) (a .count) (loop .chart) (loop .marks) (loop .covers)
-      (c .least .result) (loop .total)
+      Advancing (a .cell) (atSplit (a .card .now) (a .cell) (a .p)) (suc (a .cell .from)) (a .cell .to) (a .chart .now) (a .marks .now)
+      (a .cells .now) (a .count) (loop .chart) (loop .marks) (loop .cells) (c .least .result) (loop .total)
   passed =
       let inv = c .before .before .loop .inv in
-      advance-to {F = by (start begun)} (inv .1) (c .least .result) (walk-from (inv .2) (c .least .ensures)) (omega (arith, within))
-      (λ q l h. idle begun q (omega (arith, inv .1 .looped .begun)) (omega (arith, within)) (walk-passed (inv .2) (c .least .ensures) q l h))
-
--- Its split.
-module _ (c : tie.After-turned Inv-loop μ-loop) where
-  abbrev least : tie.After-least Inv-loop μ-loop
-  least = c .before
-
-  abbrev outer : tie.Start Inv-loop μ-loop
-  outer = start (begun least)
-
-  split-is : c .turned .result ≡ turned (dependentFirst (rule outer)) (outer .args .c .from + outer .args .c .to) (least .least .result)
-  split-is =
-      c .turned .ensures
-      ∙ ap₂ (λ (back : Bool) (sum : ℕ). turned back sum (least .least .result)) (back-is (begun least)) (sum-is (begun least))
-
-  split-inside : (outer .args .c .from < c .turned .result) × (c .turned .result < outer .args .c .to)
-  split-inside =
-      subst (λ (k : ℕ). (outer .args .c .from < k) × (k < outer .args .c .to)) (sym split-is)
-      (turned-within (dependentFirst (rule outer)) (outer .args .c .from) (outer .args .c .to) (least .least .result) (within least .0)
-      (within least .1))
+      let F = atSplit (outer .args .card .now) (outer .args .cell) (outer .args .p) in
+      advance-past {F = F} (inv .1) (c .least .result) (walk-from (inv .2) (c .least .ensures)) (omega (arith, within))
+      (λ q l h r m. advance-wider {F = F} (inv .1) _
+      (known begun q (omega (arith, inv .1 .looped .begun)) (omega (arith, within)) (walk-passed (inv .2) (c .least .ensures) q l h) r m))
 
   -- The call of a turn adds what the rule adds there.
-  turned-as : let a = outer .args in
-      let b = chartIn (least .before .before .loop .chart) (a .z .base) in
-      byRule b (a .c .left) (a .c .from) (c .turned .result) (a .c .to) (a .p) (ruleFrom (begun least .before .before .before .before .production .result))
-      ≡ by outer b (least .least .result)
-  turned-as =
+  adds-as : let a = outer .args in
+      let b = begunWith (a .cell) (c .before .before .loop .chart) in
+      byRule b (a .cell .left) (a .cell .from) (c .least .result) (a .cell .to) (a .p) (ruleFrom (begun .before .before .production .result))
+      ≡ atSplit (a .card .now) (a .cell) (a .p) b (c .least .result)
+  adds-as =
       let a = outer .args in
-      ap₂ (λ (k : ℕ) (r : Rule). byRule (chartIn (least .before .before .loop .chart) (a .z .base)) (a .c .left) (a .c .from) k (a .c .to) (a .p) r)
-      split-is (begun least .before .before .before .before .production .ensures)
+      ap (λ (r : Rule). byRule (begunWith (a .cell) (c .before .before .loop .chart)) (a .cell .left) (a .cell .from) (c .least .result)
+      (a .cell .to) (a .p) r) (begun .before .before .production .ensures)
+
+of-requires : tie.Need-of-requires Inv-loop μ-loop
+of-requires c κs = search needs
+
+production-table-requires : tie.Need-production-table-requires Inv-loop μ-loop
+production-table-requires c κs = (c .of .ensures .shortHeader, c .of .ensures .fewWords)
 
 production-requires : tie.Need-production-requires Inv-loop μ-loop
-production-requires c κs =
-    let s = c .before .before .before .before .before in production-there (s .pre .3) (s .args .p) (s .pre .6)
+production-requires c κs = there c
 
-side-is-last-requires : tie.Need-side-is-last-requires Inv-loop μ-loop
-side-is-last-requires c κs = tt
+like-before-requires : tie.Need-like-before-requires Inv-loop μ-loop
+like-before-requires c κs = there (c .before)
 
-wide-requires : tie.Need-wide-requires Inv-loop μ-loop
-wide-requires c κs = tt
-
-wide-requires-2 : tie.Need-wide-requires-2 Inv-loop μ-loop
-wide-requires-2 c κs = tt
-
-add-sum : tie.Need-add-sum Inv-loop μ-loop
-add-sum c = omega (arith, c .before .wide .ensures .1, c .wide2 .ensures .1)
-
-turns-of-requires : tie.Need-turns-of-requires Inv-loop μ-loop
-turns-of-requires c κs =
-    let s = c .before .before .before .before .before .before .before .before .before in
-    let p = s .pre in
-    let i = c .before .wide .ensures .0 in
-    let j = c .wide2 .ensures .0 in (
-      omega (arith, few-rules (p .3), p .6),
-      omega (arith, p .0 .wordsFit, p .4, p .5, i, j),
-      λ k o. let (u, v) = p .7 .inside k o in (omega (arith, p .0 .wordsFit, p .5, v), omega (arith, v, j)),
+splits-of-requires : tie.Need-splits-of-requires Inv-loop μ-loop
+splits-of-requires c κs =
+    let s = begin (c .before .before) in (
+      omega (arith, few-rules (s .args .card .now) (s .pre .1 .accepted), s .pre .2 .counted),
+      s .pre .1 .long,
+      λ k o. omega (arith, s .pre .0 .works .wordsFit, s .pre .0 .inside .2, s .pre .1 .splits .inside k o .1),
     )
 
 loop-holds : tie.Need-loop-holds Inv-loop μ-loop
 loop-holds c =
     let s = start c in (
-      suc (s .args .c .from),
-      advance-start (s .pre .0) (s .pre .8),
-      walk-start (c .turns-of .result) (suc (s .args .c .from))
-          (λ q l. bit-zero-unless q (c .turns-of .result) (λ o. absurd (omega (arith, inside c q o)))),
+      suc (s .args .cell .from),
+      advance-start (s .pre .0),
+      walk-start (c .splits-of .result) (suc (s .args .cell .from))
+          (λ q l. bit-zero-unless q (c .splits-of .result) (λ o. absurd (omega (arith, inside c q o)))),
     )
 
 least-requires : tie.Need-least-requires Inv-loop μ-loop
 least-requires c κs = c .loop-test .taken
 
-turned-requires : tie.Need-turned-requires Inv-loop μ-loop
-turned-requires c κs = omega (arith, within c, sum-is (begun c))
-
 without-requires : tie.Need-without-requires Inv-loop μ-loop
-without-requires c κs = (c .before .least .ensures .small, c .before .least .ensures .has)
+without-requires c κs = (c .least .ensures .small, c .least .ensures .has)
 
 cast-by-production : tie.Need-cast-by-production Inv-loop μ-loop
-cast-by-production c = omega (
-  arith,
-  split-inside (c .before .before .before .before) .1,
-  outer (c .before .before .before .before) .pre .5,
-  outer
-      (c .before .before .before .before) .pre .0 .wordsFit,
-)
+cast-by-production c =
+    let here = c .before .before .before .before in
+    omega (arith, within here .1, outer here .pre .0 .inside .2, outer here .pre .0 .works .wordsFit)
 
 cast-by-production-2 : tie.Need-cast-by-production-2 Inv-loop μ-loop
-cast-by-production-2 c = omega (arith, below (begun (c .before .before .before .before .before)))
+cast-by-production-2 c = omega (arith, below (begun (c .before .before .before .before)))
 
 by-production-requires : tie.Need-by-production-requires Inv-loop μ-loop
 by-production-requires c κs =
     let here = c .before .before .before .before in
-    let inv = here .before .before .before .loop .inv .1 in
-    let s = outer here in
-    let pre = s .pre in (
-      loop-works (inv .looped),
-      omega (arith, inv .looped .sofar .grown, pre .1),
-      indexed-same (loop-kept (inv .looped) (s .args .z .base) (pre .1)) (pre .2),
-      rw (begun (here .before) .before .before .before .before .production .ensures) (given-fits (pre .3) (s .args .p) (pre .6)),
-      split-inside here .0,
-      split-inside here .1,
-      pre .5,
-      advance-asks {F = by s} inv (pre .1),
-      pre .9,
+    let s = outer here in (
+      advance-filling {F = atSplit (s .args .card .now) (s .args .cell) (s .args .p)} (here .before .before .loop .inv .1) (s .pre .0),
+      rw (begun here .before .before .production .ensures)
+          (production-fits (s .args .card .now) (s .pre .1 .accepted) (s .args .p) (s .pre .2 .counted) (s .pre .1 .names)),
+      within here .0,
+      within here .1,
     )
 
 -- The call of a turn.
-abbrev here : tie.After-by-production Inv-loop μ-loop → tie.After-turned Inv-loop μ-loop
+abbrev here : tie.After-by-production Inv-loop μ-loop → tie.After-least Inv-loop μ-loop
 here c = c .before .before .before .before .before
 
+-- The last place of a turn, and its call.
+abbrev call : tie.After-struct-known Inv-loop μ-loop → tie.After-by-production Inv-loop μ-loop
+call c = c .before .before .before .before .before .before .before
+
 same-length : tie.Need-same-length Inv-loop μ-loop
-same-length c = c .before .before .before .before .before .before .before .before .by-production .ensures .added .sameRoom ∙ here (c .before
-    .before .before .before .before .before .before .before) .before .before .before .loop .inv .1 .looped .sofar .sameRoom
+same-length c =
+    call (c .before) .by-production .ensures .added .sameRoom ∙ here (call (c .before)) .before .before .loop .inv .1 .looped .sofar .sameRoom
 
 same-length-2 : tie.Need-same-length-2 Inv-loop μ-loop
-same-length-2 c = c .before .before .before .before .before .before .before .before .by-production .ensures .added .sameMarks ∙ here
-    (c .before .before .before .before .before .before .before .before) .before .before .before .loop .inv .1 .looped .sofar .sameMarks
+same-length-2 c =
+    call (c .before) .by-production .ensures .added .sameMarks ∙ here (call (c .before)) .before .before .loop .inv .1 .looped .sofar .sameMarks
 
 same-length-3 : tie.Need-same-length-3 Inv-loop μ-loop
-same-length-3 c = c .before .before .before .before .before .before .before .before .by-production .kept .1 .1 .1 .0 ∙ here (c .before .before
-    .before .before .before .before .before .before) .before .before .before .loop .inv .1 .sameCovers
+same-length-3 c = call (c .before) .by-production .ensures .sameCells ∙ here (call (c .before)) .before .before .loop .inv .1 .sameCells
 
 returns : tie.Need-returns Inv-loop μ-loop
 returns c =
-    let call = c .before .before .before .before .before .before .before .before in
-    let t = here call in
-    advance-over {F = by (outer t)} (passed (t .before)) (outer t .pre .1) (within (t .before) .1)
-    (advanced-as (turned-as t) (call .by-production .ensures)) (c .if1 .taken)
+    let t = here (call (c .before)) in
+    let a = outer t .args in
+    advance-over {F = atSplit (a .card .now) (a .cell) (a .p)} (passed t) (outer t .pre .0) (within t .1)
+    (advanced-as (adds-as t) (call (c .before) .by-production .ensures)) (c .if1 .taken)
 
 loop-less : tie.Need-loop-less Inv-loop μ-loop
-loop-less c = c .before .before .before .before .before .before .before .before .before .before .before .before .without .ensures .less
+loop-less c = call (c .before) .before .before .before .before .without .ensures .less
 
 loop-again : tie.Need-loop-again Inv-loop μ-loop
 loop-again c =
-    let call = c .before .before .before .before .before .before .before .before in
-    let t = here call in (
-      t .before .least .result + 1,
-      advance-turn {F = by (outer t)} (passed (t .before)) (outer t .pre .1) (within (t .before) .1)
-          (advanced-as (turned-as t) (call .by-production .ensures)) (c .if1 .left) (call .by-production .kept .1 .1 .1 .0),
-      walk-next (t .before .before .before .loop .inv .2) (t .before .least .ensures) (c .before .before .before .before .before .before
-          .before .before .before .before .before .before .without .ensures),
+    let t = here (call (c .before)) in
+    let a = outer t .args in (
+      t .least .result + 1,
+      advance-turn {F = atSplit (a .card .now) (a .cell) (a .p)} (passed t) (outer t .pre .0) (within t .1)
+          (advanced-as (adds-as t) (call (c .before) .by-production .ensures)) (c .if1 .left),
+      walk-next (t .before .before .loop .inv .2) (t .least .ensures) (call (c .before) .before .before .before .before .without .ensures),
     )
 
 same-length-4 : tie.Need-same-length-4 Inv-loop μ-loop
@@ -229,13 +187,16 @@ same-length-5 : tie.Need-same-length-5 Inv-loop μ-loop
 same-length-5 c = c .before .loop .inv .1 .looped .sofar .sameMarks
 
 same-length-6 : tie.Need-same-length-6 Inv-loop μ-loop
-same-length-6 c = c .before .loop .inv .1 .sameCovers
+same-length-6 c = c .before .loop .inv .1 .sameCells
 
 returns-2 : tie.Need-returns-2 Inv-loop μ-loop
 returns-2 c =
     let inv = c .before .loop .inv in
-    advance-rest {F = by (start (c .before .before))} (inv .1)
-    (λ q l h. idle (c .before .before) q (omega (arith, inv .1 .looped .begun)) h (walk-end (inv .2) (c .loop-test .left) q l))
+    let a = start (c .before .before) .args in
+    let F = atSplit (a .card .now) (a .cell) (a .p) in
+    advance-rest-known {F = F} (inv .1)
+    (λ q l h r m. advance-wider {F = F} (inv .1) _
+    (known (c .before .before) q (omega (arith, inv .1 .looped .begun)) h (walk-end (inv .2) (c .loop-test .left) q l) r m))
 
 pub across-splits-spec : {M : Type 1} → statement M
 across-splits-spec =
@@ -243,15 +204,13 @@ across-splits-spec =
     (tie.spec
     Inv-loop
     μ-loop
+    of-requires
+    production-table-requires
     production-requires
-    side-is-last-requires
-    wide-requires
-    wide-requires-2
-    add-sum
-    turns-of-requires
+    like-before-requires
+    splits-of-requires
     loop-holds
     least-requires
-    turned-requires
     without-requires
     cast-by-production
     cast-by-production-2

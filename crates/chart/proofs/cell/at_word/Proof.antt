@@ -7,16 +7,12 @@ use Rattle.chart.proofs.CellLaws.{word-one, word-none, bare-number, bar
 use borrow.Author.Needs.{needs}
 use Rattle.chart.proofs.cell.at_word.Statement.{statement}
 use Rattle.chart.proofs.cell.at_word.Tie as tie
-use Rattle.chart.proofs.cell.at_word.Reads as reads
-use Rattle.chart.proofs.cell.at_word.Lts as lts
-use Rattle.chart.proofs.cell.is_word.Reads as is-word-reads
-use Rattle.records.proofs.add.add.Reads as add-reads
 
 is-word-requires : tie.Need-is-word-requires
 is-word-requires c κs = search needs
 
-cast-t13 : tie.Need-cast-t13
-cast-t13 c = search needs
+cast-t12 : tie.Need-cast-t12
+cast-t12 c = search needs
 
 add-number : tie.Need-add-number
 add-number c = search needs
@@ -24,32 +20,34 @@ add-number c = search needs
 mul-number : tie.Need-mul-number
 mul-number c = let s = c .before .before .before .before .before .before in omega (
   arith,
-  bare-small (s .args .z .words) (s .args .z .symbols)
+  bare-small (s .args .cell .words) (s .args .cell .symbols)
       (s .pre .0 .wordsFit) (s .pre .0 .symbolsFit) .0,
 )
 
 mul-number-2 : tie.Need-mul-number-2
 mul-number-2 c = let s = c .before .before .before .before .before .before .before in omega (
   arith,
-  bare-small (s .args .z .words)
-      (s .args .z .symbols) (s .pre .0 .wordsFit) (s .pre .0 .symbolsFit) .1,
+  bare-small (s .args .cell .words)
+      (s .args .cell .symbols) (s .pre .0 .wordsFit) (s .pre .0 .symbolsFit) .1,
 )
 
 mul-number-3 : tie.Need-mul-number-3
 mul-number-3 c = let s = c .before .before .before .before .before .before .before in omega (
   arith,
-  bare-small (s .args .z .words)
-      (s .args .z .symbols) (s .pre .0 .wordsFit) (s .pre .0 .symbolsFit) .1,
+  bare-small (s .args .cell .words)
+      (s .args .cell .symbols) (s .pre .0 .wordsFit) (s .pre .0 .symbolsFit) .1,
 )
 
 add-requires : tie.Need-add-requires
-add-requires c κs = let s = c .before .before .before .before .before .before .before .before .before in (
-  s .pre .0,
-  tt,
-  (λ e.
-      (refl, refl, refl)),
-  bare-number (s .args .z .words) (s .args .z .symbols),
-)
+add-requires c κs =
+    let s = c .before .before .before .before .before .before .before .before .before in (
+      s .pre .0,
+      record {
+        fits = tt;
+        writable = λ e. (refl, refl, refl);
+        numbered = bare-number (s .args .cell .words) (s .args .cell .symbols);
+      },
+    )
 
 same-length : tie.Need-same-length
 same-length c = search needs
@@ -64,7 +62,7 @@ returns c =
     let s = test .before .before .before .before in
     let a = s .args in
     added-as
-    (word-one (a .words) (a .c .left) (a .c .from) (a .p) (ruleFrom (a .rule)) (a .c .to) (s .pre .1)
+    (word-one (a .words) (a .cell .left) (a .cell .from) (a .p) (ruleFrom (a .rule)) (a .cell .to) (s .pre .1)
     (sym (test .before .is-word .ensures) ∙ test .if1 .taken))
     (call .add .ensures)
 
@@ -72,7 +70,7 @@ returns-2 : tie.Need-returns-2
 returns-2 c =
     let s = c .before .before .before .before in
     let a = s .args in
-    added-as (word-none (a .words) (a .c .left) (a .c .from) (a .p) (ruleFrom (a .rule)) (sym (c .before .is-word .ensures) ∙ c .if1 .left))
+    added-as (word-none (a .words) (a .cell .left) (a .cell .from) (a .p) (ruleFrom (a .rule)) (sym (c .before .is-word .ensures) ∙ c .if1 .left))
     (added-none (s .pre .0))
 
 pub at-word-spec : {M : Type 1} → statement M
@@ -80,7 +78,7 @@ at-word-spec =
     tie.close
     (tie.spec
     is-word-requires
-    cast-t13
+    cast-t12
     add-number
     mul-number
     mul-number-2

@@ -6,7 +6,7 @@ use mathlib.Core.Path.{_≡_, sym, _∙_, ap, subst}
 use mathlib.Core.Logic.{⊎-elim}
 use lib.ListN.{length, set}
 use Rattle.records.specs.Room.{footThere, footFrom, numberThere}
-use Rattle.chart.specs.Tables.{Finished}
+use Rattle.chart.specs.Cell.{Finished}
 use Rattle.steps.proofs.StepLaws.{foot-fits, record-there}
 use Rattle.records.proofs.RoomLaws.{number-there}
 use Rattle.records.proofs.TableLaws.{number-within}
@@ -15,13 +15,13 @@ use Rattle.chart.proofs.cell.finish.Statement.{statement}
 use Rattle.chart.proofs.cell.finish.Tie as tie
 
 abbrev Inv-loop : tie.InvT-loop
-Inv-loop chart marks₀ z count m₀ bare₀ marks m bare =
-    (z .base ≤ m)
+Inv-loop chart marks₀ cell count m₀ bare₀ marks m bare =
+    (cell .base ≤ m)
     × (m ≤ count)
-    × Finished chart (z .base) m marks₀ marks (record { from = z .base; to = m; bare = bare })
+    × Finished chart (cell .base) m marks₀ marks (record { from = cell .base; to = m; bare = bare })
 
 abbrev μ-loop : tie.MeasureT-loop
-μ-loop chart marks₀ z count m₀ bare₀ marks m bare = count - m
+μ-loop chart marks₀ cell count m₀ bare₀ marks m bare = count - m
 
 -- The byte of a number that was read stands among the marks.
 inside : (c : tie.In-loop Inv-loop μ-loop)
@@ -31,8 +31,8 @@ inside c =
     let start = c .before .before .before .before in
     let loop = c .before .loop in
     let w = start .pre .0 in
-    let n = start .args .z .words in
-    let N = start .args .z .symbols in
+    let n = start .args .cell .words in
+    let N = start .args .cell .symbols in
     let chart = start .args .chart .now in
     omega (
       arith,
@@ -47,7 +47,7 @@ loop-holds c =
     let start = c .before .before in (
       omega arith,
       start .pre .1,
-      finish-start (start .args .chart .now) (start .args .z .base) (start .args .marks .now),
+      finish-start (start .args .chart .now) (start .args .cell .base) (start .args .marks .now),
     )
 
 foot-at-requires : tie.Need-foot-at-requires Inv-loop μ-loop
@@ -84,7 +84,7 @@ loop-again c =
     let m = loop .m + 1 in (
       omega (arith, loop .inv .0),
       omega (arith, turn .loop-test .taken),
-      finish-turn (start .args .chart .now) (start .args .z .base) (loop .inv .0) (loop .inv .2)
+      finish-turn (start .args .chart .now) (start .args .cell .base) (loop .inv .0) (loop .inv .2)
           (inside turn)
           (c .before .before .unmark .ensures ∙ ap (λ k. set (loop .marks) (k / 8) 0) (c .before .before .before .before .number-at .ensures))
           (⊎-elim
@@ -100,7 +100,7 @@ returns : tie.Need-returns Inv-loop μ-loop
 returns c =
     let start = c .before .before .before .before in
     let loop = c .before .loop in
-    finish-end (start .args .chart .now) (start .args .z .base) (loop .inv .1) (c .loop-test .left)
+    finish-end (start .args .chart .now) (start .args .cell .base) (loop .inv .1) (c .loop-test .left)
     (loop .inv .2)
 
 pub finish-spec : {M : Type 1} → statement M

@@ -1,28 +1,36 @@
 -- `sized::build_in` meets its contract: each choice has tables for the words and the nonterminals that its tests leave.
+use Prim.Native.Nat.{ℕ, _≤_}
 use native.Mathlib.Omega.{arith}
 use borrow.Author.Needs.{needs}
+use Rattle.layout.specs.Card.{maxNonterminals, nonterminalCount}
+use Rattle.chart.specs.Built.{Sized}
+use Rattle.chart.proofs.CardFits.{few-names}
 use Rattle.chart.proofs.sized.build_in.Statement.{statement}
 use Rattle.chart.proofs.sized.build_in.Tie as tie
-use Rattle.chart.proofs.sized.build_in.Reads as reads
-use Rattle.chart.proofs.sized.build_in.Lts as lts
-use Rattle.card.proofs.Card.of.Reads as of-reads
-use Rattle.chart.proofs.sized.build_eight_few.Reads as build-eight-few-reads
-use Rattle.chart.proofs.sized.build_least.Reads as build-least-reads
-use Rattle.chart.proofs.sized.build_long.Reads as build-long-reads
-use Rattle.chart.proofs.sized.build_long_few.Reads as build-long-few-reads
-use Rattle.chart.proofs.sized.build_middle.Reads as build-middle-reads
-use Rattle.chart.proofs.sized.build_middle_few.Reads as build-middle-few-reads
-use Rattle.chart.proofs.sized.build_short.Reads as build-short-reads
-use Rattle.chart.proofs.sized.build_sixteen_few.Reads as build-sixteen-few-reads
+
+module _ (c : tie.After-of) where
+  abbrev start : tie.Start
+  start = c .before .before .before
+
+  abbrev names : ℕ
+  names = nonterminalCount (start .args .card .now)
+
+  all : names ≤ maxNonterminals
+  all = few-names (start .args .card .now) (start .pre .0 .accepted)
+
+  few : c .of .result .nonterminals ≤ 6 → names ≤ 6
+  few h = omega (arith, c .of .ensures .nonterminals)
+
+  sized : (m M : ℕ) → start .args .n ≤ m → names ≤ M
+      → Sized m M (start .args .card .now) (start .args .places .now) (start .args .n) (start .args .room) (start .args .chart .now)
+  sized m M h k = record { buildable = start .pre .0; lent = start .pre .1; words = h; names = k }
 
 of-requires : tie.Need-of-requires
 of-requires c κs = search needs
 
-build-least-requires : tie.Need-build-least-requires
-build-least-requires c κs =
-    let of = c .before .before .before in
-    let s = of .before .before .before in
-    (s .pre .0, s .pre .1, c .before .before .if1 .taken, omega (arith, c .before .if2 .taken, of .of .ensures .nonterminals))
+build-4-few-requires : tie.Need-build-4-few-requires
+build-4-few-requires c κs =
+    let at = c .before .before .before in sized at 4 6 (c .before .before .if1 .taken) (few at (c .before .if2 .taken))
 
 same-length : tie.Need-same-length
 same-length c = search needs
@@ -30,11 +38,9 @@ same-length c = search needs
 returns : tie.Need-returns
 returns c = search needs
 
-build-eight-few-requires : tie.Need-build-eight-few-requires
-build-eight-few-requires c κs =
-    let of = c .before .before .before .before in
-    let s = of .before .before .before in
-    (s .pre .0, s .pre .1, c .before .before .if3 .taken, omega (arith, c .before .if4 .taken, of .of .ensures .nonterminals))
+build-8-few-requires : tie.Need-build-8-few-requires
+build-8-few-requires c κs =
+    let at = c .before .before .before .before in sized at 8 6 (c .before .before .if3 .taken) (few at (c .before .if4 .taken))
 
 same-length-2 : tie.Need-same-length-2
 same-length-2 c = search needs
@@ -42,11 +48,9 @@ same-length-2 c = search needs
 returns-2 : tie.Need-returns-2
 returns-2 c = search needs
 
-build-short-requires : tie.Need-build-short-requires
-build-short-requires c κs =
-    let of = c .before .before .before .before in
-    let s = of .before .before .before in
-    (s .pre .0, s .pre .1, c .before .if5 .taken)
+build-6-requires : tie.Need-build-6-requires
+build-6-requires c κs =
+    let at = c .before .before .before .before in sized at 6 16 (c .before .if5 .taken) (all at)
 
 same-length-3 : tie.Need-same-length-3
 same-length-3 c = search needs
@@ -54,11 +58,9 @@ same-length-3 c = search needs
 returns-3 : tie.Need-returns-3
 returns-3 c = search needs
 
-build-middle-few-requires : tie.Need-build-middle-few-requires
-build-middle-few-requires c κs =
-    let of = c .before .before .before .before .before .before in
-    let s = of .before .before .before in
-    (s .pre .0, s .pre .1, c .before .before .if6 .taken, omega (arith, c .before .if7 .taken, of .of .ensures .nonterminals))
+build-12-few-requires : tie.Need-build-12-few-requires
+build-12-few-requires c κs =
+    let at = c .before .before .before .before .before .before in sized at 12 6 (c .before .before .if6 .taken) (few at (c .before .if7 .taken))
 
 same-length-4 : tie.Need-same-length-4
 same-length-4 c = search needs
@@ -66,11 +68,9 @@ same-length-4 c = search needs
 returns-4 : tie.Need-returns-4
 returns-4 c = search needs
 
-build-middle-requires : tie.Need-build-middle-requires
-build-middle-requires c κs =
-    let of = c .before .before .before .before .before .before in
-    let s = of .before .before .before in
-    (s .pre .0, s .pre .1, c .before .before .if6 .taken)
+build-12-requires : tie.Need-build-12-requires
+build-12-requires c κs =
+    let at = c .before .before .before .before .before .before in sized at 12 16 (c .before .before .if6 .taken) (all at)
 
 same-length-5 : tie.Need-same-length-5
 same-length-5 c = search needs
@@ -78,11 +78,9 @@ same-length-5 c = search needs
 returns-5 : tie.Need-returns-5
 returns-5 c = search needs
 
-build-sixteen-few-requires : tie.Need-build-sixteen-few-requires
-build-sixteen-few-requires c κs =
-    let of = c .before .before .before .before .before .before .before in
-    let s = of .before .before .before in
-    (s .pre .0, s .pre .1, c .before .before .if8 .taken, omega (arith, c .before .if9 .taken, of .of .ensures .nonterminals))
+build-16-few-requires : tie.Need-build-16-few-requires
+build-16-few-requires c κs =
+    let at = c .before .before .before .before .before .before .before in sized at 16 6 (c .before .before .if8 .taken) (few at (c .before .if9 .taken))
 
 same-length-6 : tie.Need-same-length-6
 same-length-6 c = search needs
@@ -90,11 +88,9 @@ same-length-6 c = search needs
 returns-6 : tie.Need-returns-6
 returns-6 c = search needs
 
-build-long-few-requires : tie.Need-build-long-few-requires
-build-long-few-requires c κs =
-    let of = c .before .before .before .before .before .before .before in
-    let s = of .before .before .before in
-    (s .pre .0, s .pre .1, omega (arith, c .before .if10 .taken, of .of .ensures .nonterminals))
+build-24-few-requires : tie.Need-build-24-few-requires
+build-24-few-requires c κs =
+    let at = c .before .before .before .before .before .before .before in sized at 24 6 (start at .pre .0 .short) (few at (c .before .if10 .taken))
 
 same-length-7 : tie.Need-same-length-7
 same-length-7 c = search needs
@@ -102,9 +98,9 @@ same-length-7 c = search needs
 returns-7 : tie.Need-returns-7
 returns-7 c = search needs
 
-build-long-requires : tie.Need-build-long-requires
-build-long-requires c κs =
-    let s = c .before .before .before .before .before .before .before .before .before .before in (s .pre .0, s .pre .1)
+build-24-requires : tie.Need-build-24-requires
+build-24-requires c κs =
+    let at = c .before .before .before .before .before .before .before in sized at 24 16 (start at .pre .0 .short) (all at)
 
 same-length-8 : tie.Need-same-length-8
 same-length-8 c = search needs
@@ -117,27 +113,27 @@ build-in-spec =
     tie.close
     (tie.spec
     of-requires
-    build-least-requires
+    build-4-few-requires
     same-length
     returns
-    build-eight-few-requires
+    build-8-few-requires
     same-length-2
     returns-2
-    build-short-requires
+    build-6-requires
     same-length-3
     returns-3
-    build-middle-few-requires
+    build-12-few-requires
     same-length-4
     returns-4
-    build-middle-requires
+    build-12-requires
     same-length-5
     returns-5
-    build-sixteen-few-requires
+    build-16-few-requires
     same-length-6
     returns-6
-    build-long-few-requires
+    build-24-few-requires
     same-length-7
     returns-7
-    build-long-requires
+    build-24-requires
     same-length-8
     returns-8)

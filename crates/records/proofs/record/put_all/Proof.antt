@@ -54,7 +54,10 @@ loop-again : tie.Need-loop-again Inv-loop μ-loop
 loop-again c =
     let s = c .before .before .before in
     let l = c .before .before .loop in
-    (omega arith, more (s .args .room .now) (l .room) (s .args .at) (s .args .src .now) (l .k) (s .pre .0) (s .pre .1) (l .inv .1) (c .before .loop-test .taken))
+    let a = s .args in (
+      omega arith,
+      more (a .room .now) (l .room) (a .at) (a .src .now) (l .k) (s .pre .0) (s .pre .1) (l .inv .1) (c .before .loop-test .taken),
+    )
 
 same-length : tie.Need-same-length Inv-loop μ-loop
 same-length c =

@@ -1,11 +1,10 @@
 -- `record::put_record` meets its contract: the 16 bytes that are put together are the record's and its number's, and `put_all` puts them
 -- in place. Without an index the foot's parts are those of a record without a foot, as is asked.
-use Prim.Native.Nat.{ℕ, _+_, _*_}
+use Prim.Native.Nat.{ℕ}
 use native.Mathlib.Nat.{mul-comm}
 use native.Mathlib.Decide.{ℕ-discrete}
-use mathlib.Core.Path.{_≡_, _∙_, ap}
-use mathlib.Core.List.{List, [], _∷_, _++_}
-use lib.ListN.{take, drop}
+use mathlib.Core.Path.{_≡_}
+use mathlib.Core.List.{[], _∷_}
 use borrow.Author.Tests.{eq-eqb, ne-eqb}
 use Rattle.grammar.specs.ItemList.{item}
 use Rattle.grammar.specs.Chart.{recorded}
@@ -60,11 +59,16 @@ same-length c = search needs
 
 returns : tie.Need-returns
 returns c =
-    let a = c .before .before .before .before .before .before .before .before .before .before .before .before .before .before .args in
     let h = c .before .before .before .before .before in
-    let bytes = as-bytes (a .c .left) (a .f .index) (a .c .from) (a .c .to) (a .f .symbol) (a .f .from) (a .f .to) (a .o .production)
-    (a .o .side) (a .o .dependent) (a .o .continuation) (a .number) (c .before .before .before .before .before .before .before .before .before .before .before .before .before .before .pre .1)
-    (h .before .before .before .before .before .before .before .low .ensures) (h .before .before .before .before .before .before .high .ensures) (h .before .before .before .before .before .low2 .ensures) (h .before .before .before .before .high2 .ensures) (h .before .before .before .low3 .ensures) (h .before .before .high3 .ensures)
+    let s = h .before .before .before .before .before .before .before .before .before in
+    let a = s .args in
+    let cell = a .cell in
+    let f = a .foot in
+    let o = a .origin in
+    let bytes = as-bytes (cell .left) (f .index) (cell .from) (cell .to) (f .symbol) (f .from) (f .to) (o .production) (o .side)
+    (o .dependent) (o .continuation) (a .number) (s .pre .1) (h .before .before .before .before .before .before .before .low .ensures)
+    (h .before .before .before .before .before .before .high .ensures) (h .before .before .before .before .before .low2 .ensures)
+    (h .before .before .before .before .high2 .ensures) (h .before .before .before .low3 .ensures) (h .before .before .high3 .ensures)
     (h .before .low4 .ensures) (h .high4 .ensures)
     in
     cc (c .before .before .put-all .ensures, bytes, mul-comm 16 (a .m))

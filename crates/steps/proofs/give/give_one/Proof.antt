@@ -1,55 +1,61 @@
 -- `give_one` adds the records of a give from one dependent: none where its foot has another index, and else those of the continuations, whose
 -- positions the table has as one range. The number of the foot tells where, and nothing is added where that cell is covered.
-use Prim.Native.Nat.{_*_, _/_, _<_}
+use Prim.Native.Nat.{ℕ, _/_}
 use native.Mathlib.Omega.{arith}
 use mathlib.Core.Path.{_≡_, refl, sym, _∙_}
-use Rattle.records.specs.declared.index.Range.{Range}
-use Rattle.records.specs.Room.{chartIn, footFields}
-use Rattle.records.specs.Index.{spans, cellAt, rangeIn, SpanFits}
-use Rattle.records.specs.Cover.{Covering, CellRange}
-use Rattle.records.proofs.TableLaws.{cell-below}
+use mathlib.Core.List.{List}
+use Rattle.records.specs.declared.record.Foot as declared
+use Rattle.records.specs.declared.cells.Range.{Range}
+use Rattle.records.specs.Room.{footFields}
+use Rattle.records.specs.Cells.{cellAt, rangeIn, SpanFits, Indexed}
+use Rattle.records.specs.Cover.{CellRange}
+use Rattle.records.specs.Filling.{begunWith, overRange, Filling}
+use Rattle.steps.specs.Candidates.{continues, gives}
 use Rattle.steps.proofs.StepCandidates.{to-below, cell-range, given-span, given-at, given-none, given-each}
-use Rattle.steps.proofs.StepCover.{advanced-kept, advanced-as, look-fits, looked-at, passed-over}
+use Rattle.steps.proofs.StepCover.{advanced-kept, advanced-as, note-fits, look-fits, looked-at, advanced-looked, passed-over}
 use borrow.Author.Needs.{needs}
 use Rattle.steps.proofs.give.give_one.Statement.{statement}
 use Rattle.steps.proofs.give.give_one.Tie as tie
 
 -- The foot's index is the one to give, so its parts fit, and its number tells the place of its cell.
-same : (c : tie.Else1) → let a = c .before .before .before .before .before .before .args in footFields (a .chart .now) (a .y) .index ≡ a .g
-same c = omega (arith, c .if1 .left)
+module _ (c : tie.After-number-at) where
+  abbrev start : tie.Start
+  start = c .before .before .before .before .before .before .before
 
-span : (c : tie.After-number-at) → let a = c .before .before .before .before .before .before .before .before .args in
-    let f = footFields (a .chart .now) (a .y) in
-    SpanFits (a .z .words) (a .z .symbols) (f .symbol) (f .from) (f .to)
-span c = let q = c .before .before .before .before .before .before .before .before .pre in given-span (q .0) _ _ (q .1) (q .2) (same (c .before .before)) (q .3)
+  abbrev foot : declared.Foot
+  foot = footFields (start .args .chart .now) (start .args .y)
 
-place : (c : tie.After-number-at) → let a = c .before .before .before .before .before .before .before .before .args in
-    let f = footFields (a .chart .now) (a .y) in
-    c .number-at .result / 8 ≡ cellAt (a .z .symbols) (f .symbol) (f .from) (f .to)
-place c = let q = c .before .before .before .before .before .before .before .before .pre in given-at (q .0) _ _ (q .1) (q .2) (same (c .before .before)) (q .3) (c .number-at .ensures)
+  same : foot .index ≡ start .args .g
+  same = omega (arith, c .before .before .if1 .left)
 
--- There the table has the positions of the cell's records.
-abbrev continuations : {R : Range} (c : tie.After-number-at) → let a = c .before .before .before .before .before .before .before .before .args in
-    let at = c .number-at .result / 8 in
-    R ≡ rangeIn (a .index .now) at → CellRange (a .z .words) (a .z .symbols) (chartIn (a .chart .now) (a .z .base)) at (R .from) (R .to)
-continuations c r =
-    let s = c .before .before .before .before .before .before .before .before in
-    cell-range (s .args .chart .now) (s .args .z .base) (s .pre .4) (span c) (place c) r
+  span : SpanFits (start .args .cell .words) (start .args .cell .symbols) (foot .symbol) (foot .from) (foot .to)
+  span = let q = start .pre in given-span (q .0 .works) _ _ (q .1) (q .0 .begun) same (q .2)
 
-inside : (c : tie.After-number-at) → let a = c .before .before .before .before .before .before .before .before .args in c .number-at .result / 8 < spans (a .z .words) * a .z .symbols
-inside c =
-    let a = c .before .before .before .before .before .before .before .before .args in
-    let f = footFields (a .chart .now) (a .y) in
-    let s = span c in
-    omega (arith, place c, cell-below (a .z .words) (a .z .symbols) (f .symbol) (f .from) (f .to) (s .0) (s .1) (s .2))
+  place : c .number-at .result / 8 ≡ cellAt (start .args .cell .symbols) (foot .symbol) (foot .from) (foot .to)
+  place = let q = start .pre in given-at (q .0 .works) _ _ (q .1) (q .0 .begun) same (q .2) (c .number-at .ensures)
 
--- The table of covers once the cell was looked for.
-right : (c : tie.After-is-covered) → let a = c .before .before .before .before .before .before .before .before .before .before .before .args in
-    Covering (a .z .words) (a .z .symbols) (a .c .left) (a .c .from) (a .c .to) (chartIn (a .chart .now) (a .z .base))
-    (chartIn (a .chart .now) (a .count)) (c .is-covered .last .0)
-right c =
-    let q = c .before .before .before .before .before .before .before .before .before .before .before .pre in
-    looked-at (q .0) (q .2) (continuations (c .before .before .before) refl) (q .5) (q .6) (c .before .before .own-at .ensures .0) (c .is-covered .ensures .1)
+  -- There the table has the positions of the cell's records, from which the records of the give are made.
+  module _ {cells : List ℕ} {R : Range}
+      (t : Indexed (start .args .cell .words) (start .args .cell .symbols) (begunWith (start .args .cell) (start .args .chart .now)) cells)
+      (r : R ≡ rangeIn cells (c .number-at .result / 8)) where
+    abbrev continuations : let a = start .args in
+        CellRange (a .cell .words) (a .cell .symbols) (begunWith (a .cell) (a .chart .now)) (c .number-at .result / 8) (R .from) (R .to)
+    continuations = cell-range (start .args .chart .now) (start .args .cell .base) t span place r
+
+    given : let a = start .args in
+        let b = begunWith (a .cell) (a .chart .now) in
+        overRange (continues (a .cell) (a .side) (a .y) b) R ≡ gives (a .cell) (a .side) (a .g) b (a .y)
+    given =
+        let q = start .pre in
+        given-each (q .0 .works) _ _ (q .1) (q .0 .begun) same (q .2) _ _ R (continuations .stands)
+
+-- The table is right once the cell was looked for.
+filling : (c : tie.After-is-covered) → let a = start (c .before .before) .args in
+    Filling (a .cell) (a .chart .now) (a .marks .now) (c .is-covered .last .0) (a .count)
+filling c =
+    let n = c .before .before in
+    let h = start n .pre .0 in
+    looked-at h (continuations n (h .indexed) refl) (c .is-covered .ensures .1)
 
 mul-given : tie.Need-mul-given
 mul-given c = search needs
@@ -62,19 +68,16 @@ slice-read-given c = search needs
 
 returns : tie.Need-returns
 returns c =
-    let q = c .before .before .before .before .before .before .pre in
-    advanced-kept _ (q .5) (given-none (q .0) _ _ (q .1) (q .2) _ _ (omega (arith, c .if1 .taken)))
+    let q = c .before .before .before .before .before .pre in
+    advanced-kept (q .0) (given-none (q .0 .works) _ _ (q .1) (q .0 .begun) _ _ (omega (arith, c .if1 .taken)))
 
 number-at-requires : tie.Need-number-at-requires
 number-at-requires c κs = search needs
 
-own-at-requires : tie.Need-own-at-requires
-own-at-requires c κs = search needs
-
 is-covered-requires : tie.Need-is-covered-requires
 is-covered-requires c κs =
-    let q = c .before .before .before .before .before .before .before .before .before .before .pre in
-    look-fits (q .0) (q .2) (continuations (c .before .before) refl) (q .5) (q .6) (c .before .own-at .ensures .1)
+    let k = c .before in
+    look-fits (start k .pre .0) (continuations k (start k .pre .0 .indexed) refl)
 
 same-length : tie.Need-same-length
 same-length c = search needs
@@ -84,27 +87,31 @@ same-length-2 c = search needs
 
 returns-2 : tie.Need-returns-2
 returns-2 c =
-    let q = c .before .before .before .before .before .before .before .before .before .before .before .before .before .before .pre in
-    let a = c .before .before .before .before .before .before .before .before .before .before .before .before .before .before .args in
-    let n = c .before .before .before .before .before .before in
-    let R = rangeIn (a .index .now) (n .number-at .result / 8) in
-    let e = c .before .before .before .is-covered .ensures in
-    advanced-as (given-each (q .0) _ _ (q .1) (q .2) (same (n .before .before)) (q .3) _ _ R (continuations n refl .stands))
-    (passed-over (q .0) (q .2) (continuations n refl) (q .5) (q .6) _ (λ x. refl) (c .before .before .before .before .before .own-at .ensures .0) (sym (e .0) ∙ c .if2 .taken) (e .1))
+    let k = c .before .before .before in
+    let e = k .is-covered .ensures in
+    let n = k .before .before in
+    let h = start n .pre .0 in
+    advanced-as (given n (h .indexed) refl)
+    (passed-over h (continuations n (h .indexed) refl) _ (λ x. refl) (sym (e .0) ∙ c .if2 .taken) (e .1))
 
 range-of-requires : tie.Need-range-of-requires
-range-of-requires c κs = let n = c .before .before .before .before .before .before in omega (arith, inside n, n .before .before .before .before .before .before .before .before .pre .4 .long)
+range-of-requires c κs =
+    let k = c .before .before .before .before in
+    note-fits (filling k) (continuations (k .before .before) (filling k .indexed) refl) .1
 
 cast-continue-all : tie.Need-cast-continue-all
 cast-continue-all c = search needs
 
 continue-all-requires : tie.Need-continue-all-requires
 continue-all-requires c κs =
-    let s = c .before .before .before .before .before .before .before .before .before .before .before .before .before .before .before .before .before .before in
-    let q = s .pre in
-    let n = c .before .before .before .before .before .before .before .before .before .before in
-    let r = c .before .before .before .range-of .ensures in
-    (q .0, omega (arith, to-below (s .args .chart .now) (s .args .z .base) (q .4) _ r), q .2, continuations n r, right (c .before .before .before .before .before .before .before), q .6)
+    let r = c .before .before .before in
+    let k = r .before .before .before .before .before in
+    let n = k .before .before in
+    let a = start n .args in (
+      filling k,
+      continuations n (filling k .indexed) (r .range-of .ensures),
+      to-below (a .chart .now) (a .cell .base) (filling k .indexed) _ (r .range-of .ensures),
+    )
 
 same-length-3 : tie.Need-same-length-3
 same-length-3 c = search needs
@@ -117,10 +124,12 @@ same-length-5 c = search needs
 
 returns-3 : tie.Need-returns-3
 returns-3 c =
-    let q = c .before .before .before .before .before .before .before .before .before .before .before .before .before .before .before .before .before .before .before .before .before .before .before .before .before .pre in
-    let n = c .before .before .before .before .before .before .before .before .before .before .before .before .before .before .before .before .before in
-    advanced-as (given-each (q .0) _ _ (q .1) (q .2) (same (n .before .before)) (q .3) _ _ (c .before .before .before .before .before .before .before .before .before .before .range-of .result) (continuations n (c .before .before .before .before .before .before .before .before .before .before .range-of .ensures) .stands))
-    (c .before .before .before .before .before .before .continue-all .ensures)
+    let r = c .before .before .before .before .before .before .before .before .before .before in
+    let k = r .before .before .before .before .before in
+    let n = k .before .before in
+    let h = start n .pre .0 in
+    advanced-looked h (continuations n (h .indexed) refl) (k .is-covered .ensures .1)
+    (advanced-as (given n (filling k .indexed) (r .range-of .ensures)) (c .before .before .before .before .before .before .continue-all .ensures))
 
 pub give-one-spec : {M : Type 1} → statement M
 give-one-spec =
@@ -131,7 +140,6 @@ give-one-spec =
     slice-read-given
     returns
     number-at-requires
-    own-at-requires
     is-covered-requires
     same-length
     same-length-2

@@ -3,96 +3,97 @@
 use Prim.Native.Nat.{_-_}
 use native.Mathlib.Omega.{arith}
 use mathlib.Core.Path.{_∙_, ap}
-use Rattle.chart_model.specs.Build.{keptFrom}
-use Rattle.records.specs.Room.{chartIn, footFrom}
-use Rattle.steps.proofs.StepLaws.{Looped, loop-start, loop-works, loop-below, loop-end, loop-turn, loop-over, loop-foot}
-use Rattle.steps.proofs.StepLaws.{record-there, read-again}
+use Rattle.records.specs.Room.{footFrom}
+use Rattle.records.specs.Filling.{begunWith, AddedTo}
+use Rattle.steps.specs.Candidates.{keeps}
+use Rattle.steps.proofs.StepLaws.{Looped, loop-start, loop-end, loop-turn, loop-over, turn-there, turn-small, turn-asks, turn-adds}
 use Rattle.steps.proofs.keep.keep_each.Statement.{statement}
 use Rattle.steps.proofs.keep.keep_each.Tie as tie
 
 abbrev Inv-loop : tie.InvT-loop
-Inv-loop chart₀ marks₀ z c s from to count y₀ total₀ chart marks y total =
-    Looped (z .words) (z .symbols) (z .room) (c .left) (c .from) (c .to)
-    (keptFrom (chartIn chart₀ (z .base)) (c .left) (c .from) (c .to) (s .production) (s .position)) from to chart₀ marks₀ count
-    chart marks y total
+Inv-loop chart₀ marks₀ cell side range count y₀ total₀ chart marks y total =
+    Looped (cell .words) (cell .symbols) (cell .room) (cell .left) (cell .from) (cell .to) (keeps cell side (begunWith cell chart₀))
+    (range .from) (range .to) chart₀ marks₀ count chart marks y total
 
 abbrev μ-loop : tie.MeasureT-loop
-μ-loop chart₀ marks₀ z c s from to count y₀ total₀ chart marks y total = to - y
+μ-loop chart₀ marks₀ cell side range count y₀ total₀ chart marks y total = range .to - y
+
+-- The start, from a turn; the turn, from its call of `add`; and the record that the call adds.
+abbrev start : tie.Then1 Inv-loop μ-loop → tie.Start Inv-loop μ-loop
+start t = t .before .before .before .before .before
+
+abbrev turn : tie.After-add Inv-loop μ-loop → tie.Then1 Inv-loop μ-loop
+turn c = c .before .before .before .before .before .before .before
+
+one : (c : tie.After-add Inv-loop μ-loop) → let a = start (turn c) .args in
+    let l = turn c .before .before .loop in
+    AddedTo (a .cell) (keeps (a .cell) (a .side) (begunWith (a .cell) (a .chart .now)) (l .y)) (l .chart) (l .marks) (l .total)
+    (c .add .last .0) (c .add .last .1 .0) (c .add .result)
+one c =
+    let t = turn c in
+    turn-adds (start t .pre) (t .before .before .loop .inv) (t .if1 .taken)
+    (ap footFrom (c .before .before .before .before .before .foot-at .ensures)) (c .add .ensures)
 
 loop-holds : tie.Need-loop-holds Inv-loop μ-loop
-loop-holds c = loop-start (c .before .before .pre .0)
+loop-holds c = loop-start (c .before .before .pre .works)
 
 foot-at-requires : tie.Need-foot-at-requires Inv-loop μ-loop
-foot-at-requires c κs =
-    let q = c .before .before .before .before .before .pre in
-    let l = c .before .before .loop .inv in
-    record-there _ (loop-works l) (loop-below l (c .before .loop-test .taken) (q .1) (q .2))
+foot-at-requires c κs = let t = c .before in turn-there (start t .pre) (t .before .before .loop .inv) (t .if1 .taken)
 
 number-at-requires : tie.Need-number-at-requires Inv-loop μ-loop
 number-at-requires c κs =
-    let q = c .before .before .before .before .before .before .before .pre in
-    let l = c .before .before .before .before .loop .inv in
-    record-there _ (loop-works l) (loop-below l (c .before .before .before .loop-test .taken) (q .1) (q .2))
+    let t = c .before .before .before in turn-there (start t .pre) (t .before .before .loop .inv) (t .if1 .taken)
 
-cast-t19 : tie.Need-cast-t19 Inv-loop μ-loop
-cast-t19 c =
-    let q = c .before .before .before .before .before .before .before .before .pre in
-    omega (arith, c .before .before .before .before .loop-test .taken, q .1, q .2, q .0 .countFits, q .0 .roomSmall)
+cast-t17 : tie.Need-cast-t17 Inv-loop μ-loop
+cast-t17 c =
+    let t = c .before .before .before .before in
+    omega (arith, turn-small (start t .pre) (t .before .before .loop .inv) (t .if1 .taken))
 
 add-requires : tie.Need-add-requires Inv-loop μ-loop
 add-requires c κs =
-    let q = c .before .before .before .before .before .before .before .before .before .before .pre in
-    let l = c .before .before .before .before .before .before .before .loop .inv in
-    let h = loop-below l (c .before .before .before .before .before .before .loop-test .taken) (q .1) (q .2) in
-    let (a, b, d) = read-again _ (loop-works l) h (c .before .before .before .before .foot-at .ensures) (c .before .before .number-at .ensures) in
-    (loop-works l, a, b, d)
+    let t = c .before .before .before .before .before .before in
+    turn-asks (start t .pre) (t .before .before .loop .inv) (t .if1 .taken) (c .before .before .before .before .foot-at .ensures)
+    (c .before .before .number-at .ensures)
 
 same-length : tie.Need-same-length Inv-loop μ-loop
 same-length c =
-    c .before .before .before .before .before .before .add .ensures .sameRoom
-    ∙ c .before .before .before .before .before .before .before .before .before .before .before .before .before .before .loop .inv .sofar .sameRoom
+    let k = c .before .before .before .before .before .before in
+    k .add .ensures .sameRoom ∙ turn k .before .before .loop .inv .sofar .sameRoom
 
 same-length-2 : tie.Need-same-length-2 Inv-loop μ-loop
 same-length-2 c =
-    c .before .before .before .before .before .before .add .ensures .sameMarks
-    ∙ c .before .before .before .before .before .before .before .before .before .before .before .before .before .before .loop .inv .sofar .sameMarks
+    let k = c .before .before .before .before .before .before in
+    k .add .ensures .sameMarks ∙ turn k .before .before .loop .inv .sofar .sameMarks
 
 -- The room is full: the records that are left change nothing.
 returns : tie.Need-returns Inv-loop μ-loop
 returns c =
-    let q = c .before .before .before .before .before .before .before .before .before .before .before .before .before .before .before .before .before .pre in
-    let l = c .before .before .before .before .before .before .before .before .before .before .before .before .before .before .loop .inv in
-    let t = c .before .before .before .before .before .before .before .before .before .before .before .before .before .loop-test .taken in
-    let one = loop-foot _ l t (q .1) (q .2) (ap footFrom (c .before .before .before .before .before .before .before .before .before .before .before .foot-at .ensures))
-    (c .before .before .before .before .before .before .add .ensures) in
-    loop-over l t one (c .if1 .taken)
+    let k = c .before .before .before .before .before .before in
+    let t = turn k in
+    loop-over (t .before .before .loop .inv) (t .if1 .taken) (one k) (c .if2 .taken)
 
 add-y : tie.Need-add-y Inv-loop μ-loop
 add-y c =
-    let q = c .before .before .before .before .before .before .before .before .before .before .before .before .before .before .before .before .before .pre in
-    let t = c .before .before .before .before .before .before .before .before .before .before .before .before .before .loop-test .taken in
-    omega (arith, t, q .1, q .2, q .0 .countFits, q .0 .roomSmall)
+    let t = turn (c .before .before .before .before .before .before) in
+    omega (arith, turn-small (start t .pre) (t .before .before .loop .inv) (t .if1 .taken))
 
 loop-less : tie.Need-loop-less Inv-loop μ-loop
-loop-less c = omega (arith, c .before .before .before .before .before .before .before .before .before .before .before .before .before .loop-test .taken)
+loop-less c = omega (arith, turn (c .before .before .before .before .before .before) .if1 .taken)
 
 loop-again : tie.Need-loop-again Inv-loop μ-loop
 loop-again c =
-    let q = c .before .before .before .before .before .before .before .before .before .before .before .before .before .before .before .before .before .pre in
-    let l = c .before .before .before .before .before .before .before .before .before .before .before .before .before .before .loop .inv in
-    let t = c .before .before .before .before .before .before .before .before .before .before .before .before .before .loop-test .taken in
-    let one = loop-foot _ l t (q .1) (q .2) (ap footFrom (c .before .before .before .before .before .before .before .before .before .before .before .foot-at .ensures))
-    (c .before .before .before .before .before .before .add .ensures) in
-    loop-turn l t one (c .if1 .left)
+    let k = c .before .before .before .before .before .before in
+    let t = turn k in
+    loop-turn (t .before .before .loop .inv) (t .if1 .taken) (one k) (c .if2 .left)
 
 same-length-3 : tie.Need-same-length-3 Inv-loop μ-loop
-same-length-3 c = c .before .loop .inv .sofar .sameRoom
+same-length-3 c = c .before .before .loop .inv .sofar .sameRoom
 
 same-length-4 : tie.Need-same-length-4 Inv-loop μ-loop
-same-length-4 c = c .before .loop .inv .sofar .sameMarks
+same-length-4 c = c .before .before .loop .inv .sofar .sameMarks
 
 returns-2 : tie.Need-returns-2 Inv-loop μ-loop
-returns-2 c = loop-end (c .before .loop .inv) (c .loop-test .left)
+returns-2 c = loop-end (c .before .before .loop .inv) (c .if1 .left)
 
 pub keep-each-spec : {M : Type 1} → statement M
 keep-each-spec =
@@ -103,7 +104,7 @@ keep-each-spec =
     loop-holds
     foot-at-requires
     number-at-requires
-    cast-t19
+    cast-t17
     add-requires
     same-length
     same-length-2

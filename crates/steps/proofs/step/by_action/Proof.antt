@@ -4,8 +4,7 @@ use Prim.Native.Nat.{_≤_}
 use native.Mathlib.Omega.{arith}
 use mathlib.Core.Path.{refl, subst}
 use Rattle.card.specs.Productions.{actionFrom}
-use Rattle.records.specs.Room.{chartIn}
-use Rattle.records.specs.Cover.{CellRange}
+use Rattle.records.specs.Filling.{RangeAt}
 use Rattle.steps.specs.Fits.{ActionFits}
 use Rattle.steps.proofs.StepLaws.{added-as}
 use Rattle.steps.proofs.StepCandidates.{to-below, cell-range, foot-made, foot-numbered, with-index, by-take, by-keep, by-give}
@@ -21,20 +20,23 @@ range-of-requires : tie.Need-range-of-requires
 range-of-requires c κs = search needs
 
 -- What was read from the table: a range of positions below the base, those of the dependent's records.
-below : (c : tie.After-range-of) → c .range-of .result .to ≤ c .before .before .before .before .before .before .args .z .base
-below c =
-    let s = c .before .before .before .before .before .before in
-    to-below (s .args .chart .now) (s .args .z .base) (s .pre .2) (c .before .cell-at .result) (c .range-of .ensures)
+module _ (c : tie.After-range-of) where
+  abbrev start : tie.Start
+  start = c .before .before .before .before .before .before
 
-abbrev dependents : (c : tie.After-range-of) → let a = c .before .before .before .before .before .before .args in
-    let r = c .range-of .result in
-    CellRange (a .z .words) (a .z .symbols) (chartIn (a .chart .now) (a .z .base)) (c .before .cell-at .result) (r .from) (r .to)
-dependents c =
-    let s = c .before .before .before .before .before .before in
-    cell-range (s .args .chart .now) (s .args .z .base) (s .pre .2) (s .pre .4) (c .before .cell-at .ensures .0) (c .range-of .ensures)
+  below : c .range-of .result .to ≤ start .args .cell .base
+  below =
+      let a = start .args in
+      to-below (a .chart .now) (a .cell .base) (start .pre .0 .indexed) (c .before .before .cell-at .result) (c .range-of .ensures)
 
-enum-known-a : tie.Need-enum-known-a
-enum-known-a c = search needs
+  abbrev dependents : RangeAt (start .args .cell) (start .args .chart .now) (c .before .before .cell-at .result) (c .range-of .result)
+  dependents =
+      let a = start .args in
+      cell-range (a .chart .now) (a .cell .base) (start .pre .0 .indexed) (start .pre .2) (c .before .before .cell-at .ensures .0)
+      (c .range-of .ensures)
+
+enum-known-action : tie.Need-enum-known-action
+enum-known-action c = search needs
 
 cast-t18 : tie.Need-cast-t18
 cast-t18 c = search needs
@@ -45,54 +47,51 @@ cast-t19 c = search needs
 cast-t20 : tie.Need-cast-t20
 cast-t20 c = search needs
 
-mul-number : tie.Need-mul-number
-mul-number c = search needs
+mul-foot-number : tie.Need-mul-foot-number
+mul-foot-number c = search needs
 
 wide-requires : tie.Need-wide-requires
 wide-requires c κs = search needs
 
-add-number : tie.Need-add-number
-add-number c = search needs
+add-foot-number : tie.Need-add-foot-number
+add-foot-number c = search needs
 
 -- The index to take is counted.
-taken : (c : tie.After-a) → (1 ≤ c .a .given .0 .0) × (c .a .given .0 .0 ≤ 8)
-taken c = subst (λ a. ActionFits (actionFrom a)) (c .a .given .1) (c .before .before .before .before .before .before .before .before .pre .3)
+taken : (c : tie.After-action) → (1 ≤ c .action .given .0 .0) × (c .action .given .0 .0 ≤ 8)
+taken c = subst (λ a. ActionFits (actionFrom a)) (c .action .given .1) (start (c .before .before) .pre .1)
 
-sub-number : tie.Need-sub-number
-sub-number c = omega (arith, taken (c .before .before .before .before .before) .0, c .wide .ensures .0)
+sub-foot-number : tie.Need-sub-foot-number
+sub-foot-number c = omega (arith, taken (c .before .before .before .before .before) .0, c .wide .ensures .0)
 
 take-one-requires : tie.Need-take-one-requires
 take-one-requires c κs =
     let t = c .before .before .before .before .before .before .before in
     let r = t .before .before in
-    let q = r .before .before .before .before .before .before .pre in
-    let (l, h) = taken t in (
-      q .0,
-      below r,
-      q .1,
-      foot-made _ _ _ _ _ _ l h (q .4),
-      with-index _ l,
-      foot-numbered _ _ _ _ _ _ l (dependents r .number) (c .before .before .wide .ensures .0) refl,
+    let h = start r .pre .0 in
+    let (l, u) = taken t in (
+      record { works = h .works; begun = h .begun; below = below r },
+      record {
+        fits = foot-made _ _ _ _ _ _ l u (start r .pre .2);
+        writable = with-index _ l;
+        numbered = foot-numbered _ _ _ _ _ _ l (dependents r .number) (c .before .before .wide .ensures .0) refl;
+      },
     )
 
 enum-told : tie.Need-enum-told
 enum-told c = search needs
 
 keep-all-requires : tie.Need-keep-all-requires
-keep-all-requires c κs =
-    let r = c .before .before .before .before .before in
-    let q = r .before .before .before .before .before .before .pre in
-    (q .0, below r, q .1, dependents r, q .5, q .6)
+keep-all-requires c κs = let r = c .before .before .before .before .before in (start r .pre .0, dependents r, below r)
 
-enum-known-a-2 : tie.Need-enum-known-a-2
-enum-known-a-2 c = search needs
+enum-known-action-2 : tie.Need-enum-known-action-2
+enum-known-action-2 c = search needs
 
 give-each-requires : tie.Need-give-each-requires
 give-each-requires c κs =
     let r = c .before .before .before .before .before .before in
-    let q = r .before .before .before .before .before .before .pre in
-    let (l, h) = subst (λ a. ActionFits (actionFrom a)) (c .before .before .before .before .a2 .given .1) (q .3) in
-    (q .0, below r, q .1, l, q .2, q .5, q .6)
+    let q = start r .pre in
+    let (l, u) = subst (λ a. ActionFits (actionFrom a)) (c .before .before .before .before .action2 .given .1) (q .1) in
+    (q .0, below r, l)
 
 same-length : tie.Need-same-length
 same-length c = search needs
@@ -100,22 +99,25 @@ same-length c = search needs
 same-length-2 : tie.Need-same-length-2
 same-length-2 c = search needs
 
+same-length-3 : tie.Need-same-length-3
+same-length-3 c = search needs
+
 returns : tie.Need-returns
 returns c =
     let t = c .before .before .before .before .before .before .before .before .before .before .before .before in
     let r = t .before .before in
-    advanced-kept _ (r .before .before .before .before .before .before .pre .5)
-    (added-as (by-take _ _ _ _ _ _ _ _ _ (r .range-of .result) (dependents r .stands) (t .a .given .1) (taken t .0))
+    advanced-kept (start r .pre .0)
+    (added-as (by-take _ _ _ _ _ _ _ _ _ (r .range-of .result) (dependents r .stands) (t .action .given .1) (taken t .0))
     (c .before .before .before .before .take-one .ensures))
-
-same-length-3 : tie.Need-same-length-3
-same-length-3 c = search needs
 
 same-length-4 : tie.Need-same-length-4
 same-length-4 c = search needs
 
 same-length-5 : tie.Need-same-length-5
 same-length-5 c = search needs
+
+same-length-6 : tie.Need-same-length-6
+same-length-6 c = search needs
 
 returns-2 : tie.Need-returns-2
 returns-2 c =
@@ -124,20 +126,20 @@ returns-2 c =
     advanced-as (by-keep _ _ _ _ _ _ _ _ _ (r .range-of .result) (dependents r .stands) (t .enum-told .given .1))
     (c .before .before .before .before .before .before .keep-all .ensures)
 
-same-length-6 : tie.Need-same-length-6
-same-length-6 c = search needs
-
 same-length-7 : tie.Need-same-length-7
 same-length-7 c = search needs
 
 same-length-8 : tie.Need-same-length-8
 same-length-8 c = search needs
 
+same-length-9 : tie.Need-same-length-9
+same-length-9 c = search needs
+
 returns-3 : tie.Need-returns-3
 returns-3 c =
     let t = c .before .before .before .before .before .before .before .before .before .before .before in
     let r = t .before .before in
-    advanced-as (by-give _ _ _ _ _ _ _ _ _ (r .range-of .result) (dependents r .stands) (t .a2 .given .1))
+    advanced-as (by-give _ _ _ _ _ _ _ _ _ (r .range-of .result) (dependents r .stands) (t .action2 .given .1))
     (c .before .before .before .before .before .before .give-each .ensures)
 
 pub by-action-spec : {M : Type 1} → statement M
@@ -146,27 +148,28 @@ by-action-spec =
     (tie.spec
     cell-at-requires
     range-of-requires
-    enum-known-a
+    enum-known-action
     cast-t18
     cast-t19
     cast-t20
-    mul-number
+    mul-foot-number
     wide-requires
-    add-number
-    sub-number
+    add-foot-number
+    sub-foot-number
     take-one-requires
     enum-told
     keep-all-requires
-    enum-known-a-2
+    enum-known-action-2
     give-each-requires
     same-length
     same-length-2
-    returns
     same-length-3
+    returns
     same-length-4
     same-length-5
-    returns-2
     same-length-6
+    returns-2
     same-length-7
     same-length-8
+    same-length-9
     returns-3)

@@ -8,10 +8,10 @@ use Rattle.steps.proofs.step.take_one.Tie as tie
 
 returns : tie.Need-returns
 returns c =
-    added-as (sym (taken-none _ _ _ _ _ _ _ _ (c .if1 .taken))) (added-none (c .before .before .before .pre .0))
+    added-as (sym (taken-none _ _ _ _ _ _ _ _ (c .if1 .taken))) (added-none (c .before .before .before .before .pre .0 .works))
 
-cast-t13 : tie.Need-cast-t13
-cast-t13 c = search needs
+cast-t12 : tie.Need-cast-t12
+cast-t12 c = search needs
 
 add-requires : tie.Need-add-requires
 add-requires c κs = search needs
@@ -29,4 +29,4 @@ returns-2 c =
 
 pub take-one-spec : {M : Type 1} → statement M
 take-one-spec =
-    tie.close (tie.spec returns cast-t13 add-requires same-length same-length-2 returns-2)
+    tie.close (tie.spec returns cast-t12 add-requires same-length same-length-2 returns-2)

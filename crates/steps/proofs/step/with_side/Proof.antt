@@ -2,8 +2,8 @@
 use native.Mathlib.Omega.{arith}
 use mathlib.Core.Path.{_≡_, sym}
 use Rattle.chart_model.specs.Build.{barePlaces}
-use Rattle.records.specs.Room.{chartIn}
-use Rattle.records.specs.Index.{bareIn}
+use Rattle.records.specs.Cells.{bareIn}
+use Rattle.records.specs.Filling.{begunWith}
 use Rattle.steps.proofs.StepLaws.{added-none, added-as}
 use Rattle.steps.proofs.StepCandidates.{bare-below, range-bares, no-bare, one-bare}
 use Rattle.steps.proofs.StepCover.{advanced-kept, advanced-as}
@@ -17,40 +17,49 @@ cell-at-requires c κs = search needs
 range-of-requires : tie.Need-range-of-requires
 range-of-requires c κs = search needs
 
+same-length : tie.Need-same-length
+same-length c = search needs
+
 -- What was read from the table: the position of the side's bare item.
-found : (c : tie.After-range-of) → let a = c .before .before .before .before .before .before .args in
-    barePlaces (chartIn (a .chart .now) (a .z .base)) (a .side .symbol) (a .side .from) (a .side .to) ≡ bareIn (c .range-of .result .bare)
-found c =
-    let s = c .before .before .before .before .before .before in
-    range-bares (s .args .chart .now) (s .args .z .base) (s .pre .2) (s .pre .5) (c .before .cell-at .ensures .0) (c .range-of .ensures)
+module _ (c : tie.After-range-of) where
+  abbrev start : tie.Start
+  start = c .before .before .before .before .before .before .before .before
+
+  found : let side = start .args .met .side in
+      barePlaces (begunWith (start .args .cell) (start .args .chart .now)) (side .symbol) (side .from) (side .to)
+      ≡ bareIn (c .range-of .result .bare)
+  found =
+      let a = start .args in
+      range-bares (a .chart .now) (a .cell .base) (start .pre .0 .indexed) (start .pre .1 .side) (c .before .before .cell-at .ensures .0)
+      (c .range-of .ensures)
 
 returns : tie.Need-returns
 returns c =
-    let r = c .before in
-    let q = r .before .before .before .before .before .before .pre in
-    advanced-kept _ (q .6) (added-as (sym (no-bare _ _ (found r) (c .if1 .taken))) (added-none (q .0)))
+    let h = start (c .before) .pre .0 in
+    advanced-kept h (added-as (sym (no-bare _ _ (found (c .before)) (c .if1 .taken))) (added-none (h .works)))
 
-sub-t17 : tie.Need-sub-t17
-sub-t17 c = search needs
+sub-t18 : tie.Need-sub-t18
+sub-t18 c = search needs
 
-cast-t18 : tie.Need-cast-t18
-cast-t18 c =
+cast-t19 : tie.Need-cast-t19
+cast-t19 c =
     let r = c .before in
-    let s = r .before .before .before .before .before .before in
-    let h = bare-below (s .args .chart .now) (s .args .z .base) (s .pre .2) (r .before .cell-at .result) (r .range-of .ensures) in
-    omega (arith, h, s .pre .1, s .pre .0 .countFits, s .pre .0 .roomSmall)
+    let a = start r .args in
+    let h = start r .pre .0 in
+    let l = bare-below (a .chart .now) (a .cell .base) (h .indexed) (r .before .before .cell-at .result) (r .range-of .ensures) in
+    omega (arith, l, h .begun, h .works .countFits, h .works .roomSmall)
 
 by-action-requires : tie.Need-by-action-requires
 by-action-requires c κs = search needs
-
-same-length : tie.Need-same-length
-same-length c = search needs
 
 same-length-2 : tie.Need-same-length-2
 same-length-2 c = search needs
 
 same-length-3 : tie.Need-same-length-3
 same-length-3 c = search needs
+
+same-length-4 : tie.Need-same-length-4
+same-length-4 c = search needs
 
 returns-2 : tie.Need-returns-2
 returns-2 c =
@@ -63,11 +72,12 @@ with-side-spec =
     (tie.spec
     cell-at-requires
     range-of-requires
-    returns
-    sub-t17
-    cast-t18
-    by-action-requires
     same-length
+    returns
+    sub-t18
+    cast-t19
+    by-action-requires
     same-length-2
     same-length-3
+    same-length-4
     returns-2)

@@ -1,0 +1,34 @@
+-- `sized::build_16_few` meets its contract: its tables are zeros for 16 words and 6 nonterminals.
+use borrow.Author.Needs.{needs}
+use Rattle.chart.proofs.BuiltExact.{sized-lent}
+use Rattle.chart.proofs.sized.build_16_few.Statement.{statement}
+use Rattle.chart.proofs.sized.build_16_few.Tie as tie
+
+slice-aggregate-build-with : tie.Need-slice-aggregate-build-with
+slice-aggregate-build-with c = search needs
+
+slice-aggregate-build-with-2 : tie.Need-slice-aggregate-build-with-2
+slice-aggregate-build-with-2 c = search needs
+
+slice-aggregate-build-with-3 : tie.Need-slice-aggregate-build-with-3
+slice-aggregate-build-with-3 c = search needs
+
+build-with-requires : tie.Need-build-with-requires
+build-with-requires c κs = sized-lent 16 6 (c .before .before .before .before .before .before .pre)
+
+same-length : tie.Need-same-length
+same-length c = search needs
+
+returns : tie.Need-returns
+returns c = search needs
+
+pub build-16-few-spec : {M : Type 1} → statement M
+build-16-few-spec =
+    tie.close
+    (tie.spec
+    slice-aggregate-build-with
+    slice-aggregate-build-with-2
+    slice-aggregate-build-with-3
+    build-with-requires
+    same-length
+    returns)

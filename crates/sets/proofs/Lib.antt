@@ -1,0 +1,7 @@
+pub mod CardRules
+pub mod StoreLaws
+pub mod ClassLaws
+pub mod RowLaws
+pub mod MeetLaws
+pub mod SortedLaws
+pub mod LikeLaws
