@@ -1,11 +1,11 @@
 -- Check's number is 0 exactly for the bytes of a leftmost derivation of an accepted line: bytes and steps are each other's, and the
 -- plan test decides the rest. So what Read may write passes Check, and what passes Check derives the line in 2n − 1 steps.
-use Prim.Native.Nat.{ℕ, _*_, _-_}
+use Prim.Native.Nat.{ℕ, _-_}
 use mathlib.Core.Path.{_≡_, refl, sym, _∙_, ap}
 use mathlib.Core.Bool.{true, false, false≢true}
-use mathlib.Core.List.{List, [], _∷_, _++_, map}
+use mathlib.Core.List.{List, [], _∷_, map}
 use mathlib.Core.Option.{Option, none, some}
-use lib.ListN.{length, drop}
+use lib.ListN.{length}
 use Rattle.grammar.specs.Input.{Holds}
 use Rattle.grammar.specs.Rewriting.{word, start}
 use Rattle.grammar.specs.Plan.{PlanStep, planStep, productionIn, LeftmostSteps, passes}
@@ -17,7 +17,7 @@ use Rattle.grammar.proofs.Existence.{plan-derivable}
 use Rattle.layout.specs.Card.{grammarOf}
 use Rattle.layout.specs.Line.{wordsOf, Spelled}
 use Rattle.layout.specs.Steps.{planBytes, stepsOf, andStep, planSteps}
-use Rattle.layout.specs.Answers.{inputNumber, wordsIn, lineTest, Derives, HasDerivation, planPasses, checkNumber, PlanFor, PlanWritten}
+use Rattle.layout.specs.Answers.{inputNumber, wordsIn, lineTest, Derives, HasDerivation, planPasses, checkNumber}
 use Rattle.layout.proofs.Accepting.{check-accepts, check-of-plan}
 use Rattle.layout.proofs.CardLaws.{card-one-sided}
 use Rattle.layout.proofs.Spellings.{spelled-stand, stand-spelled}
@@ -83,12 +83,3 @@ pub words-derive : (card line : List ℕ) {numbers ps : List ℕ} → Spelled ca
     → (plan : List PlanStep) × Derives card line plan × (map productionIn plan ≡ ps)
 words-derive card line s steps =
     rewriting-plans (grammarOf card) (Holds (lineTest card line)) steps (spelled-stand card s)
-
--- A leftmost derivation is a plan of its line, and written at the start of a room it is what Read promises.
-pub plan-for : (card line : List ℕ) (plan : List PlanStep) → inputNumber card line ≡ 0 → Derives card line plan → PlanFor card line plan
-plan-for card line plan e d =
-    record { derives = d; steps = derives-length card line d; passes = check-complete card line plan e d }
-
-pub plan-written : (card line : List ℕ) {before after : List ℕ} (plan : List PlanStep) → inputNumber card line ≡ 0
-    → Derives card line plan → after ≡ planBytes plan ++ drop (4 * length plan) before → PlanWritten card line before after
-plan-written card line plan e d w = record { plan = plan; is-plan = plan-for card line plan e d; written = w }

@@ -13,6 +13,7 @@ pub mod Lengths
 pub mod Reading
 pub mod WordsLength
 pub mod Checking
+pub mod Planning
 pub mod Packing
 pub mod Charts
 pub mod Table

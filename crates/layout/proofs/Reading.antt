@@ -29,7 +29,7 @@ pub has-derivation : (card line : List ℕ) → Derivable (grammarOf card) (Hold
 has-derivation card line d =
     record { words = d .words; spelled = stand-spelled card (wordsOf line) (d .stand); derivation = d .derivation }
 
-derivation-stands : (card line : List ℕ) → HasDerivation card line → Derivable (grammarOf card) (Holds (lineTest card line)) (wordsIn line)
+pub derivation-stands : (card line : List ℕ) → HasDerivation card line → Derivable (grammarOf card) (Holds (lineTest card line)) (wordsIn line)
 derivation-stands card line d =
     record { words = d .words; stand = spelled-stand card (d .spelled); derivation = d .derivation }
 

@@ -1,6 +1,6 @@
 -- Document 01, "Refusals by who can cause them" and the answers of the five calls: each a function of the inputs alone, the order of
 -- refusals in one place, and what every lent room holds afterwards. Free, and named so: which chart, in what order of its items and
--- with which recorded steps; and which leftmost derivation the plan room gets.
+-- with which recorded steps. Nothing of the plan is free (document 02, Paper 5).
 use Prim.Native.Nat.{ℕ, _+_, _*_, _^_, _≤_}
 use mathlib.Core.Path.{_≡_}
 use mathlib.Core.Bool.{Bool, true, false, cond, _||_}
@@ -13,6 +13,7 @@ use Rattle.grammar.specs.Input.{Holds}
 use Rattle.grammar.specs.Items.{bare}
 use Rattle.grammar.specs.ItemList.{Item, item, items, among}
 use Rattle.grammar.specs.Plan.{PlanStep, LeftmostDerivation, passes}
+use Rattle.grammar.specs.FirstPlan.{FirstPlan}
 use Rattle.grammar.specs.Pairs.{Pair, pairsOf}
 use Rattle.grammar.specs.Chart.{Record, IsChart}
 use Rattle.layout.specs.Refusals.{Refusal, unless, firstRefusal}
@@ -114,14 +115,14 @@ planPasses card line (some plan) = passes (grammarOf card) (lineTest card line) 
 abbrev pub checkNumber : List ℕ → List ℕ → List ℕ → ℕ
 checkNumber card line plan = firstRefusal (inputRefusals card line ++ (unless (planPasses card line (stepsOf plan)) 34 ∷ []))
 
--- A plan of the line: a leftmost derivation of it, of 2n − 1 steps, which passes Check under the same card and line.
+-- The plan of the line: the first of all leftmost derivations of it, of 2n − 1 steps, which passes Check under the same card and line.
+-- proofs/Planning.antt: a line has no two, and has one where it has a derivation.
 pub record PlanFor (card line : List ℕ) (plan : List PlanStep) : Type 0 where
-  pub derives : Derives card line plan
+  pub first : FirstPlan (grammarOf card) (Holds (lineTest card line)) (wordsIn line) plan
   pub steps : length plan ≡ planSteps (wordsIn line)
   pub passes : checkNumber card line (planBytes plan) ≡ 0
 
--- The plan room after Read. Where the line was read: a plan of it, and past it what was there; which plan is free. Otherwise the room is
--- untouched.
+-- The plan room after Read. Where the line was read: its plan, and past it what was there. Otherwise the room is untouched.
 pub record PlanWritten (card line before after : List ℕ) : Type 0 where
   pub plan : List PlanStep
   pub is-plan : PlanFor card line plan

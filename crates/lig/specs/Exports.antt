@@ -16,7 +16,7 @@ numberIn r = r % 2 ^ 16
 pub record ReadPacked (card line oldChart oldPlan newChart newPlan : List ℕ) (r : ℕ) : Type 0 where
   -- the answer, from the inputs and the rooms' lengths alone
   pub answer : r ≡ readPacked (readAnswer card line (length oldChart) (length oldPlan))
-  -- every byte of the rooms; which chart and which plan is free
+  -- every byte of the rooms; which chart is free, and nothing of the plan
   pub chart : ChartAfter card line (chartState (numberIn r)) oldChart newChart
   pub plan : PlanAfter card line (eqb (numberIn r) 0) oldPlan newPlan
   -- "read" comes with a derivation, 25 refutes every one, and a derivation with room enough is read

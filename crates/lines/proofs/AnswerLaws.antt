@@ -118,14 +118,14 @@ module _ {card line oldChart oldPlan newChart newPlan : List ℕ} {r : Answer} (
     shows-plan : LineText card line (readLine (r .words) (r .items) ++ planText card line (take (4 * r .steps) newPlan))
     shows-plan =
         let plan = planned x z .plan in
-        let d = planned x z .is-plan .derives in
+        let is-plan = planned x z .is-plan in
         subst (λ (b : Bool). TextIf b card line (readLine (r .words) (r .items) ++ planText card line (take (4 * r .steps) newPlan)))
         (sym (eq-eqb (lineAnswer card line .number) 0 (sym number-is ∙ z))) (
           plan,
-          d,
+          is-plan,
           ap (λ (a : ReadAnswer). readLine (a .words) (a .items) ++ planText card line (take (4 * r .steps) newPlan)) answer-is
               ∙ ap (λ (l : List ℕ). readLine (lineAnswer card line .words) (lineAnswer card line .items) ++ l)
-              (ap (planText card line) (plan-taken x z) ∙ plan-text card line plan (read-accepted x z) d),
+              (ap (planText card line) (plan-taken x z) ∙ plan-text card line plan (read-accepted x z) (is-plan .first .derives)),
         )
 
     pub read-answer : {old mid new : List ℕ} {at m after : ℕ} → Appends old at (readLine (r .words) (r .items)) mid m

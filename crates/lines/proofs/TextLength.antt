@@ -81,11 +81,12 @@ pub text-length : (card line text : List ℕ) → LineText card line text → le
 text-length card line text t = by-number (eqb (lineAnswer card line .number) 0) refl t
   where
     by-number : (b : Bool) → eqb (lineAnswer card line .number) 0 ≡ b → TextIf b card line text → length text ≤ 32 * (length line + 1)
-    by-number true e (plan, d, is) =
+    by-number true e (plan, is-plan, is) =
         let a = lineAnswer card line in
         omega (
           arith,
           ap length is,
-          reading-length card line plan (a .words) (a .items) (read-whole card line 64000 188 (eqb-true (a .number) 0 e) .0) d,
+          reading-length card line plan (a .words) (a .items) (read-whole card line 64000 188 (eqb-true (a .number) 0 e) .0)
+              (is-plan .first .derives),
         )
     by-number false e is = omega (arith, ap length is, refused-short (lineAnswer card line .number))

@@ -11,8 +11,7 @@ use Rattle.grammar.specs.Plan.{PlanStep, planStep}
 use Rattle.grammar.specs.Pairs.{placeIn, Pair, pair, pairsOf}
 use Rattle.layout.specs.Card.{grammarOf}
 use Rattle.layout.specs.Steps.{pairsBytes}
-use Rattle.layout.specs.Answers.{ReadAnswer, readAnswer, pairsAnswer}
-use Rattle.layout.specs.Answers.{Derives}
+use Rattle.layout.specs.Answers.{ReadAnswer, readAnswer, pairsAnswer, PlanFor}
 use Rattle.split.specs.Lines.{linesOf}
 use Rattle.lines_text.specs.Text.{readLine, refusedLine, stepLine, stepLines, pairLine, pairLines, Appends}
 use Rattle.lines.specs.declared.Printed.{Printed}
@@ -28,10 +27,10 @@ stepText (planStep p i k j) = stepLine p i k j
 abbrev pub pairText : Pair → List ℕ
 pairText (pair given taken) = pairLine (placeIn given) (placeIn taken)
 
--- A line that is read: words and items, the steps of a leftmost derivation, its pairs. A refused line: the number.
+-- A line that is read: words and items, the steps of its plan, its pairs. A refused line: the number.
 abbrev pub TextIf : Bool → List ℕ → List ℕ → List ℕ → Type 0
 TextIf true card line text =
-    (plan : List PlanStep) × Derives card line plan
+    (plan : List PlanStep) × PlanFor card line plan
     × (text ≡ readLine (lineAnswer card line .words) (lineAnswer card line .items)
     ++ (concatMap stepText plan ++ concatMap pairText (pairsOf (grammarOf card) plan)))
 TextIf false card line text = text ≡ refusedLine (lineAnswer card line .number)

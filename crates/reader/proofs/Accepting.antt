@@ -5,7 +5,7 @@ use mathlib.Core.Path.{_≡_, sym, subst}
 use mathlib.Core.Bool.{Bool}
 use mathlib.Core.List.{List}
 use Rattle.grammar.specs.Input.{Holds, Below}
-use Rattle.layout.specs.Answers.{wordsIn, lineTest}
+use Rattle.layout.specs.Answers.{lineTest}
 use Rattle.layout.proofs.Reading.{line-below}
 use Rattle.places.specs.Places.{wordTest}
 use Rattle.line.specs.declared.Accepted.{Accepted}

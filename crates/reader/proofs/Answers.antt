@@ -1,7 +1,6 @@
 -- Read's answer in each of its cases, and what the rooms hold with a number that says nothing of a chart.
 -- The tests are decided in their order; no number of card and line is 25 or 31.
 use Prim.Native.Nat.{ℕ, _≤_, _<_}
-use native.Mathlib.Omega.{arith}
 use mathlib.Core.Path.{_≡_, refl}
 use mathlib.Core.Bool.{true}
 use mathlib.Core.List.{List}

@@ -12,7 +12,7 @@ use Rattle.layout.specs.Steps.{planRoom}
 use Rattle.layout.specs.Answers.{inputNumber, wordsIn, lineTest, derivable, startFound, ReadAnswer, refusal, found, readAnswer}
 use Rattle.layout.specs.Answers.{ChartState, chartState, ChartAfter, PlanAfter}
 use Rattle.layout.proofs.Accepting.{accepted-line, input-of-card}
-use Rattle.layout.proofs.Checking.{plan-written}
+use Rattle.layout.proofs.Planning.{plan-written}
 use Rattle.layout.proofs.Reading.{read-derivation, no-reading, derivation-read}
 use Rattle.line.specs.declared.Accepted.{Accepted}
 use Rattle.line.specs.Accepted.{Accepts}
@@ -30,7 +30,7 @@ use Rattle.chart.proofs.BuiltLaws.{built-more}
 use Rattle.reader.specs.Ended.{Refuses, Charted, RoomAfter, PlanOf}
 use Rattle.reader.proofs.Accepting.{count-within}
 use Rattle.reader.proofs.Answers.{answer-refused, answer-short, answer-over, answer-found, no-chart}
-use Rattle.reader.proofs.Starts.{held, counts-items, items-fit, start-there, start-missing}
+use Rattle.reader.proofs.Starts.{room-after, held, counts-items, items-fit, start-there, start-first, start-missing}
 
 -- The answer is a, and the rooms are as its number says.
 reads : {card line oldChart oldPlan newChart newPlan : List ℕ} {r : Answer} (a : ReadAnswer) → answerFrom r ≡ a
@@ -66,17 +66,18 @@ module _ (card line oldChart oldPlan newChart newPlan : List ℕ) (r : Answer) (
 
   found-ends : (start : Start) → Found newChart count (wordsIn line) start
       → answerFrom r ≡ record { number = startNumber start; words = wordsIn line; items = count; steps = startSteps (wordsIn line) start }
-      → RoomAfter card (lineTest card line) (wordsIn line) start oldPlan newPlan
+      → RoomAfter card (lineTest card line) newChart count start oldPlan newPlan
       → Reads card line oldChart oldPlan newChart newPlan r
   found-ends (At m) f e plan =
       reads (found true (wordsIn line) count) e
       (answer-due true (start-there card line oldChart newChart count card-accepted built m f))
-      (built .room)
-      (plan-written card line (plan .steps) input (plan .derives) (plan .written))
+      (room-after card line oldChart newChart count card-accepted built)
+      (plan-written card line (plan .steps) input
+      (start-first card line oldChart newChart count card-accepted built m f (plan .way)) (plan .written))
   found-ends Missing f e plan =
       reads (found false (wordsIn line) count) e
       (answer-due false (start-missing card line oldChart newChart count card-accepted built f))
-      (built .room) plan
+      (room-after card line oldChart newChart count card-accepted built) plan
 
 -- A refusal of card or line.
 pub ends-input : (card line oldChart oldPlan : List ℕ) {number : ℕ} {r : Answer} → number ≡ inputNumber card line → (number ≡ 0 → ⊥)

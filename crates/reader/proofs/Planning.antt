@@ -15,7 +15,7 @@ module _ {card chart : List ℕ} {n count : ℕ} {start : Start} (searched : Fou
       record { accepted = h .accepted; at = h .at; held = h .held; inside = f .place .0; whole = f .place .1; room = h .room; short = h .short }
 
   pub start-planned : {old new : List ℕ} {m s : ℕ} → start ≡ At m
-      → Plans card chart count n old new
+      → Plans card chart count m old new
       → s ≡ 2 * n - 1
       → PlanOf card chart n count old new (record { number = 0; words = n; items = count; steps = s })
   start-planned {m = m} e plan steps =

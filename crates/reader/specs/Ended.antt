@@ -26,13 +26,13 @@ pub record Charted (card chart : List ℕ) (n count : ℕ) (plan : List ℕ) : T
   pub short : n ≤ 24
   pub room : planRoom n ≤ length plan
 
-abbrev pub RoomAfter : List ℕ → (ℕ → ℕ → Bool) → ℕ → Start → List ℕ → List ℕ → Type 0
-RoomAfter card at n (At m) old new = Planned card at n old new
-RoomAfter card at n Missing old new = new ≡ old
+abbrev pub RoomAfter : List ℕ → (ℕ → ℕ → Bool) → List ℕ → ℕ → Start → List ℕ → List ℕ → Type 0
+RoomAfter card at chart count (At m) old new = Planned card at chart count m old new
+RoomAfter card at chart count Missing old new = new ≡ old
 
--- Whatever test the records are justified for, the plan is one of its line.
+-- Whatever test the records are justified for, the plan goes down its chart by the recorded steps.
 pub record PlanOf (card chart : List ℕ) (n count : ℕ) (old new : List ℕ) (r : Answer) : Type 0 where
   pub start : Start
   pub searched : Found chart count n start
   pub answer : answerFrom r ≡ record { number = startNumber start; words = n; items = count; steps = startSteps n start }
-  pub plan : (at : ℕ → ℕ → Bool) → Held card at chart count → RoomAfter card at n start old new
+  pub plan : (at : ℕ → ℕ → Bool) → Held card at chart count → RoomAfter card at chart count start old new

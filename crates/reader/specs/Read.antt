@@ -14,7 +14,7 @@ answerFrom r = record { number = r .number; words = r .words; items = r .items; 
 pub record Reads (card line oldChart oldPlan newChart newPlan : List ℕ) (r : Answer) : Type 0 where
   -- the answer, from the inputs and the rooms' lengths alone
   pub answer : answerFrom r ≡ readAnswer card line (length oldChart) (length oldPlan)
-  -- every byte of the rooms; which chart and which plan is free
+  -- every byte of the rooms; which chart is free, and nothing of the plan
   pub chart : ChartAfter card line (chartState (r .number)) oldChart newChart
   pub plan : PlanAfter card line (eqb (r .number) 0) oldPlan newPlan
   -- "read" comes with a derivation, 25 refutes every one, and a derivation with room enough is read

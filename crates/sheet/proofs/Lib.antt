@@ -9,4 +9,5 @@ pub mod AnswerLaws
 pub mod Outcome
 pub mod Fits
 pub mod OneLine
+pub mod Decided
 pub mod Examples

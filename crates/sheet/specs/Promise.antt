@@ -30,7 +30,7 @@ abbrev pub lineAt : List ℕ → ℕ → List ℕ
 lineAt sheet k = getD (linesOf sheet) k []
 
 pub record Sheet (card sheet oldChart oldOutput newChart newOutput : List ℕ) (number line count : ℕ) : Type 0 where
-  -- free: a plan for each line that is read
+  -- the plan of each line that is read; a line has one, so nothing but the chart is free (proofs/Decided.antt)
   pub plans : List (List PlanStep)
   pub each : EachRead card (sheetCourse card sheet (length oldChart) .read) plans
   -- the answer, from the inputs, the rooms' lengths and these plans alone; where a line fails, without them

@@ -1,5 +1,5 @@
--- Document 02, Paper 1, "A whole sheet": how reading goes over the lines, the records of the lines' pairs, and the answer. Free, and named
--- so: the plan of each line that is read. One list of plans serves the whole answer.
+-- Document 02, Paper 1, "A whole sheet": how reading goes over the lines, the records of the lines' pairs, and the answer. One list of plans,
+-- those of the lines that are read, serves the whole answer; a line has one plan.
 use Prim.Native.Nat.{ℕ, _+_, _*_, _^_}
 use mathlib.Core.Path.{_≡_}
 use mathlib.Core.Bool.{cond}

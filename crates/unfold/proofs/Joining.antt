@@ -10,7 +10,7 @@ use Rattle.card.specs.Productions.{actionFrom}
 use Rattle.unfold.specs.declared.Rest.{Rest}
 use Rattle.unfold.specs.declared.Left.{Left}
 use Rattle.unfold.specs.declared.Left.the-variants.{Nothing, SideFirst, SideLast}
-use Rattle.unfold.specs.Spine.{nameAt, fromAt, toAt, lengthAt, ruleAt, waiting, alone, Stays, Ready, Asked, Unfolds, UnfoldsSpine}
+use Rattle.unfold.specs.Spine.{fromAt, toAt, lengthAt, ruleAt, waiting, alone, Stays, Ready, Asked, Unfolds, UnfoldsSpine}
 use Rattle.unfold.specs.Spine.{Opened, openedWord, openedFirst, openedLast, StepWritten}
 use Rattle.unfold.proofs.Waiting.{none-waiting, untouched, stays-then, stays-below, waiting-stays}
 use Rattle.unfold.proofs.Turns.{Parts, Turn, turn}
@@ -36,14 +36,15 @@ alone-ready {m = m} stack depth ready = rw (none-waiting stack m depth) ready
 pub as-side : {card chart stack plan new : List ℕ} {table m depth here next : ℕ} {stays : Type 0}
     → Asked card table chart stack (alone m depth) plan here → UnfoldsSpine card chart stack (alone m depth) plan here new next × stays
     → Unfolds card chart m [] plan here new next × stays
-as-side {stack = stack} {depth = depth} asked (plans, kept) = (λ at count s ready. plans at count s (alone-ready stack depth ready), kept)
+as-side {card} {chart} {stack} {plan} {new} {m = m} {depth = depth} {here = here} {next = next} asked (plans, kept) =
+    (subst (λ (pending : List ℕ). Unfolds card chart m pending plan here new next) (none-waiting stack m depth) plans, kept)
 
 -- A word has no parts.
 module _ {card chart stack stack₁ plan plan₁ : List ℕ} {here next : ℕ} {whole : Rest} where
   word-yields : Opened card chart stack whole stack₁ (Nothing next) → StepWritten chart (whole .position) (Nothing next) plan here plan₁
       → UnfoldsSpine card chart stack whole plan here plan₁ next × Stays (whole .base) stack stack₁
   word-yields (openedWord e same) w = (
-    λ at count s ready. lone (word-of (subst (Turn card at chart count _ _ _ _ _ _ _ _ _) e (turn ready))) w,
+    λ at count s ready. lone (word-of (subst (Turn card at chart count _ _ _ _ _ _ _ _) e (turn ready))) w,
     rw same untouched,
   )
 
@@ -53,14 +54,12 @@ module _ {card chart stack stack₁ plan plan₁ : List ℕ} {here next : ℕ} {
 
 -- The parts of a record whose side comes first, and of one whose side comes last.
 abbrev FirstParts : List ℕ → (ℕ → ℕ → Bool) → List ℕ → ℕ → ℕ → List ℕ → ℕ → ℕ → List ℕ → Type 0
-FirstParts card at chart count m s beside position pending =
-    (t : List ℕ) × Parts card at chart count (ruleAt chart m) (nameAt chart m) (fromAt chart m) (toAt chart m) s beside [] [] position t
-    pending
+FirstParts card at chart count m pending beside position rest =
+    (t : List ℕ) × Parts card at chart count m (ruleAt chart m) (fromAt chart m) (toAt chart m) pending beside [] [] position t rest
 
 abbrev LastParts : List ℕ → (ℕ → ℕ → Bool) → List ℕ → ℕ → ℕ → List ℕ → ℕ → ℕ → List ℕ → Type 0
-LastParts card at chart count m s beside position pending =
-    (t : List ℕ) × Parts card at chart count (ruleAt chart m) (nameAt chart m) (fromAt chart m) (toAt chart m) s position t pending beside
-    [] []
+LastParts card at chart count m pending beside position rest =
+    (t : List ℕ) × Parts card at chart count m (ruleAt chart m) (fromAt chart m) (toAt chart m) pending position t rest beside [] []
 
 module _ {card chart stack stack₁ : List ℕ} {beside next : ℕ} {whole rest : Rest} where
   first-follows : Opened card chart stack whole stack₁ (SideFirst beside rest next) → Follows stack whole stack₁ rest
@@ -71,12 +70,12 @@ module _ {card chart stack stack₁ : List ℕ} {beside next : ℕ} {whole rest 
 
   module _ {at : ℕ → ℕ → Bool} {count : ℕ} {s : List ℕ} (ready : Ready card at chart count (whole .position) s (waiting stack whole)) where
     first-parts : Opened card chart stack whole stack₁ (SideFirst beside rest next)
-        → FirstParts card at chart count (whole .position) s beside (rest .position) (waiting stack₁ rest)
+        → FirstParts card at chart count (whole .position) (waiting stack whole) beside (rest .position) (waiting stack₁ rest)
     first-parts (openedFirst {a = a} node e same goes) =
         rw same (first-of (actionFrom a) (node-turn ready node e) (goes .position) (goes .pending))
 
     last-parts : Opened card chart stack whole stack₁ (SideLast rest beside next)
-        → LastParts card at chart count (whole .position) s beside (rest .position) (waiting stack₁ rest)
+        → LastParts card at chart count (whole .position) (waiting stack whole) beside (rest .position) (waiting stack₁ rest)
     last-parts (openedLast {a = a} node e same goes) =
         rw same (last-of (actionFrom a) (node-turn ready node e) (goes .position) (goes .pending))
 
@@ -140,12 +139,14 @@ module _ {card chart stack stack₁ plan plan₁ : List ℕ} {table here beside 
 
     pub first-joined : {stack₃ plan₃ : List ℕ} {last : ℕ} → UnfoldsSpine card chart stack₂ rest plan₂ then plan₃ last
         → Stays (rest .base) stack₂ stack₃ → UnfoldsSpine card chart stack whole plan here plan₃ last × Stays (whole .base) stack stack₃
-    first-joined {stack₃} seconds stays = let f = first-follows (first-opens .0) in (
-      λ at count s ready. let (t, parts) = first-parts ready (first-opens .0) in
-          joined parts refl (first-opens .1) (plans at count [] (parts .first .ready)) (seconds at count t (rw still (parts .second .ready))),
-      stays-then (f .stays)
-          (subst (λ (base : ℕ). Stays base stack₁ stack₃) (f .base) (stays-then (stays-below _ _ rest-above kept) stays)),
-    )
+    first-joined {stack₃} {plan₃} {last} seconds stays =
+        let f = first-follows (first-opens .0) in
+        let rests = subst (λ (pending : List ℕ). Unfolds card chart (rest .position) pending plan₂ then plan₃ last) still seconds in (
+          λ at count s ready. let (t, parts) = first-parts ready (first-opens .0) in
+              joined parts refl (first-opens .1) (plans at count [] (parts .first .ready)) (rests at count t (parts .second .ready)),
+          stays-then (f .stays)
+              (subst (λ (base : ℕ). Stays base stack₁ stack₃) (f .base) (stays-then (stays-below _ _ rest-above kept) stays)),
+        )
 
 -- The side last: nothing is pending any more.
 module _ {card chart stack stack₁ plan plan₁ : List ℕ} {table here beside next : ℕ} {whole rest : Rest} {left : Left}

@@ -1,5 +1,5 @@
--- The item of the start has no foot, so nothing is pending under it: it is unfolded as a side is, at the room's start. Its plan takes
--- nonterminal 0 with an empty stack to all n words, and that is a leftmost derivation of them.
+-- The item of the start has no foot, so nothing is pending under it: it is unfolded as a side is, at the room's start, and the side's plan
+-- is the line's.
 use Prim.Native.Nat.{ℕ, _*_, _<_}
 use native.Mathlib.Nat.{le-refl}
 use native.Mathlib.Omega.{arith}
@@ -14,8 +14,8 @@ use Rattle.layout.specs.Card.{productionTable}
 use Rattle.layout.specs.Records.{recordAt, chartIn}
 use Rattle.layout.specs.Steps.{planBytes}
 use Rattle.unfold.specs.Unfold.{Held, Unfoldable, Planned}
-use Rattle.unfold.specs.Spine.{nameAt, fromAt, toAt, alone, Ready, Asked, Unfolded}
-use Rattle.unfold.proofs.Starting.{start-name, start-from, start-to, start-foot}
+use Rattle.unfold.specs.Spine.{alone, Ready, Asked, Unfolded}
+use Rattle.unfold.proofs.Starting.{start-from, start-to, start-foot}
 use Rattle.layout.proofs.Lengths.{plan-bytes-length}
 
 pub start-ready : {card : List ℕ} {at : ℕ → ℕ → Bool} {chart : List ℕ} {count m n : ℕ} → Held card at chart count → m < count
@@ -45,13 +45,12 @@ start-asked {chart = chart} {count = count} {m = m} {n = n} u starts full =
       room = omega (arith, u .room);
     }
 
-pub start-planned : (chart : List ℕ) (m : ℕ) {card : List ℕ} {at : ℕ → ℕ → Bool} {old new : List ℕ} {n next : ℕ}
-    → itemOf (recordAt chart m) ≡ item 0 0 n bare → Unfolded card at (nameAt chart m) (fromAt chart m) (toAt chart m) [] old 0 new next
-    → Planned card at n old new
-start-planned chart m {old = old} {n = n} {next = next} e u =
+pub start-planned : {card : List ℕ} {at : ℕ → ℕ → Bool} {chart old new : List ℕ} {count m next : ℕ}
+    → Unfolded card at chart count m [] old 0 new next → Planned card at chart count m old new
+start-planned {old = old} {next = next} u =
     let size : next ≡ 4 * length (u .steps) = omega (arith, u .wrote .ends, plan-bytes-length (u .steps)) in
     record {
       steps = u .steps;
-      derives = rw (start-name chart m n e, start-from chart m n e, start-to chart m n e) at (u .yields);
+      way = u .way;
       written = u .wrote .written ∙ ap (λ (k : ℕ). planBytes (u .steps) ++ drop k old) size;
     }

@@ -4,14 +4,13 @@ use mathlib.Core.Path.{_≡_}
 use mathlib.Core.Bool.{Bool, true, false}
 use mathlib.Core.List.{List, [], _∷_}
 use lib.ListN.{length, getD, take}
-use Rattle.grammar.specs.Rewriting.{Lexical, Spine, nonterminal}
-use Rattle.grammar.specs.Input.{Holds}
+use Rattle.grammar.specs.Rewriting.{Lexical, Spine}
 use Rattle.grammar.specs.Items.{bare}
 use Rattle.grammar.specs.ItemList.{item}
 use Rattle.grammar.specs.Chart.{itemOf, Onward, onward, Pends}
-use Rattle.grammar.specs.Plan.{PlanStep, planStep, Yields}
+use Rattle.grammar.specs.Plan.{PlanStep, planStep}
 use Rattle.layout.specs.Bytes.{byteAt, number16At}
-use Rattle.layout.specs.Card.{grammarOf, production, productionTable, cardNumber}
+use Rattle.layout.specs.Card.{production, productionTable, cardNumber}
 use Rattle.layout.specs.Records.{recordAt, footThere, chartIn}
 use Rattle.layout.specs.Steps.{stepBytes, planBytes, planRoom}
 use Rattle.layout.specs.Written.{Wrote}
@@ -22,7 +21,7 @@ use Rattle.unfold.specs.declared.Node.{Node}
 use Rattle.unfold.specs.declared.Rest.{Rest}
 use Rattle.unfold.specs.declared.Left.{Left}
 use Rattle.unfold.specs.declared.Left.the-variants.{Nothing, SideFirst, SideLast}
-use Rattle.unfold.specs.Unfold.{Held}
+use Rattle.unfold.specs.Unfold.{Held, RecordedWay}
 
 -- Of the record at position m: its nonterminal, where its stretch starts and ends, how many words that is, and its production.
 abbrev pub nameAt : List ℕ → ℕ → ℕ
@@ -149,10 +148,11 @@ abbrev pub StepWritten : List ℕ → ℕ → Left → List ℕ → ℕ → List
 StepWritten chart m left old here new =
     Wrote old here (stepBytes (planStep (ruleAt chart m) (fromAt chart m) (splitBy chart m left) (toAt chart m))) new (nextIn left)
 
--- The room has a plan that takes A with the stack s to the words from i to j.
-pub record Unfolded (card : List ℕ) (at : ℕ → ℕ → Bool) (A i j : ℕ) (s old : List ℕ) (here : ℕ) (new : List ℕ) (next : ℕ) : Type 0 where
+-- The room has the plan that goes down from the record at m by the recorded steps.
+pub record Unfolded (card : List ℕ) (at : ℕ → ℕ → Bool) (chart : List ℕ) (count m : ℕ) (pending old : List ℕ) (here : ℕ) (new : List ℕ)
+    (next : ℕ) : Type 0 where
   pub steps : List PlanStep
-  pub yields : Yields (grammarOf card) (Holds at) (nonterminal A s ∷ []) i j steps
+  pub way : RecordedWay card at chart count m pending steps
   pub wrote : Wrote old here (planBytes steps) new next
 
 -- And it does so for every test and every stack of indices for which the record at m is ready; for a spine, with what is pending on
@@ -160,7 +160,7 @@ pub record Unfolded (card : List ℕ) (at : ℕ → ℕ → Bool) (A i j : ℕ) 
 abbrev pub Unfolds : List ℕ → List ℕ → ℕ → List ℕ → List ℕ → ℕ → List ℕ → ℕ → Type 0
 Unfolds card chart m pending old here new next =
     (at : ℕ → ℕ → Bool) (count : ℕ) (s : List ℕ) → Ready card at chart count m s pending
-    → Unfolded card at (nameAt chart m) (fromAt chart m) (toAt chart m) s old here new next
+    → Unfolded card at chart count m pending old here new next
 
 abbrev pub UnfoldsSpine : List ℕ → List ℕ → List ℕ → Rest → List ℕ → ℕ → List ℕ → ℕ → Type 0
 UnfoldsSpine card chart stack whole old here new next = Unfolds card chart (whole .position) (waiting stack whole) old here new next

@@ -3,14 +3,15 @@
 use Prim.Native.Nat.{ℕ, _+_, _*_, _≤_, _<_}
 use mathlib.Core.Path.{_≡_}
 use mathlib.Core.Bool.{Bool, cond}
-use mathlib.Core.List.{List, _++_, map}
+use mathlib.Core.List.{List, [], _++_, map}
 use lib.ListN.{length, drop}
 use Rattle.grammar.specs.Lists.{Stands}
 use Rattle.grammar.specs.Input.{Holds}
 use Rattle.grammar.specs.Items.{bare}
 use Rattle.grammar.specs.ItemList.{item, among}
 use Rattle.grammar.specs.Chart.{Record, Justified, itemOf}
-use Rattle.grammar.specs.Plan.{PlanStep, LeftmostDerivation}
+use Rattle.grammar.specs.Plan.{PlanStep}
+use Rattle.grammar.specs.Ways.{Way, Recorded}
 use Rattle.layout.specs.Card.{grammarOf, cardNumber}
 use Rattle.layout.specs.Records.{recordAt, chartIn}
 use Rattle.layout.specs.Steps.{planBytes, planSteps, planRoom}
@@ -34,15 +35,21 @@ pub record Unfoldable (card chart : List ℕ) (count m n : ℕ) (plan : List ℕ
   pub room : planRoom n ≤ length plan
   pub short : n ≤ 24
 
--- The plan room got a leftmost derivation of n words, and has what it had past it.
-pub record Planned (card : List ℕ) (at : ℕ → ℕ → Bool) (n : ℕ) (old new : List ℕ) : Type 0 where
+-- The plan that goes down from the record at m, with what is pending, by the recorded steps. Whether it is the first plan depends on which
+-- steps the chart records: grammar/proofs/WaysPlans.antt.
+abbrev pub RecordedWay : List ℕ → (ℕ → ℕ → Bool) → List ℕ → ℕ → ℕ → List ℕ → List PlanStep → Type 0
+RecordedWay card at chart count m pending steps =
+    Way (grammarOf card) (Holds at) (chartIn chart count) (Recorded (chartIn chart count)) m pending steps
+
+-- The plan room got that plan from the record at m, with nothing pending, and has what it had past it.
+pub record Planned (card : List ℕ) (at : ℕ → ℕ → Bool) (chart : List ℕ) (count m : ℕ) (old new : List ℕ) : Type 0 where
   pub steps : List PlanStep
-  pub derives : LeftmostDerivation (grammarOf card) (Holds at) n steps
+  pub way : RecordedWay card at chart count m [] steps
   pub written : new ≡ planBytes steps ++ drop (4 * length steps) old
 
 -- And it did so for every test for which the room's records are justified.
 abbrev pub Plans : List ℕ → List ℕ → ℕ → ℕ → List ℕ → List ℕ → Type 0
-Plans card chart count n old new = (at : ℕ → ℕ → Bool) → Held card at chart count → Planned card at n old new
+Plans card chart count m old new = (at : ℕ → ℕ → Bool) → Held card at chart count → Planned card at chart count m old new
 
 -- Document 01's number for each answer of the search for the start, and the steps of a plan of n words that come with it.
 abbrev pub startNumber : Start → ℕ

@@ -260,7 +260,7 @@ fn is_start(chart: &[u8], m: usize, n: usize) -> bool
 // The plan of the item of the start over n words, which stands at position m.
 pub fn unfold(card: &[u8], chart: &[u8], count: usize, m: usize, n: usize, plan: &mut [u8])
     requires { ⌜ Unfoldable (now card) (now chart) count m n (now plan) ⌝ }
-    ensures { λ r. ⌜ Plans (now (card .entry)) (now (chart .entry)) count n (now (plan .entry)) (now (plan .exit)) ⌝ }
+    ensures { λ r. ⌜ Plans (now (card .entry)) (now (chart .entry)) count m (now (plan .entry)) (now (plan .exit)) ⌝ }
 {
     let table = Card::of(card).production_table();
     let mut stack = [0u16; 24];

@@ -1,6 +1,5 @@
 -- The item of the start is unfolded as a side is, with nothing pending, from the room's first byte on.
 -- The laws of Whole.antt hand what is asked on, and read the side's plan as the line's.
-use denote.Ref.{now}
 use mathlib.Core.Path.{refl, _∙_}
 use mathlib.Core.List.{[]}
 use Rattle.card.proofs.Accepted.{view-table}
@@ -28,10 +27,8 @@ returns : tie.Need-returns
 returns c =
     let past = c .before .before in
     let began = past .before .before .before .before .before .before .before .before in
-    let a = began .args in
     let u = began .pre in
-    λ at held. start-planned (now (a .chart)) (a .m) (u .whole)
-    (past .side .ensures .0 at _ [] (start-ready held (u .inside) (u .whole)))
+    λ at held. start-planned (past .side .ensures .0 at _ [] (start-ready held (u .inside) (u .whole)))
 
 pub unfold-spec : {M : Type 1} → statement M
 unfold-spec = tie.close (tie.spec of-requires production-table-requires side-requires same-length returns)
