@@ -1,7 +1,9 @@
 //! Cards drawn at random.
 
 use crate::alike;
+use crate::lines;
 use crate::names::repair::repair;
+use crate::readings;
 use independent::random::Random;
 use independent::write::{CardText, tomato};
 
@@ -15,22 +17,31 @@ struct Counts {
 
 pub struct Drawn {
     pub text: CardText,
-    /// Dense cards make many items.
-    dense: bool,
+    shape: Shape,
     /// The most entries that are spelled alike.
     most_alike: usize,
 }
 
+#[derive(Clone, Copy, PartialEq, Eq)]
+enum Shape {
+    /// Made for many items.
+    Crowded,
+    /// Made for several readings.
+    Several,
+    Other,
+}
+
 impl Drawn {
-    /// A length for lines, which are kept short more often than not where the card is dense. Where
-    /// several words have one spelling, most are so short that all their lists of words can be
-    /// asked about.
+    /// A length for lines, which are kept short more often than not where there are many items.
+    /// Where several words have one spelling, most are so short that all their lists of words can
+    /// be asked about.
     pub fn most_words(&self, random: &mut Random) -> usize {
-        let most = match (self.dense, random.below(30)) {
-            (true, 0) => 24,
-            (true, _) => 8,
-            (false, 0..=9) => 24,
-            (false, _) => 10,
+        let most = match (self.shape, random.below(30)) {
+            (Shape::Crowded, 0) => 24,
+            (Shape::Several, 0) => 14,
+            (Shape::Crowded | Shape::Several, _) => 8,
+            (Shape::Other, 0..=9) => 24,
+            (Shape::Other, _) => 10,
         };
         if random.once_in(5) {
             return most;
@@ -46,25 +57,29 @@ impl Drawn {
         };
         most.min(short)
     }
+
+    /// The words of a line of at most so many. Short lines have hardly several readings, so the
+    /// longest of a few is taken for these.
+    pub fn line(&self, random: &mut Random, most_words: usize) -> Vec<u8> {
+        let drawn = if self.shape == Shape::Several { 4 } else { 1 };
+        let lines = (0..drawn).map(|_| lines::draw(&self.text, random, most_words));
+        lines.max_by_key(Vec::len).unwrap_or_default()
+    }
 }
 
 /// One card in so many keeps the dead names that it was drawn with.
 const CARDS_A_DEAD_ONE: usize = 16;
 
 pub fn draw(random: &mut Random) -> Drawn {
-    let dense = random.once_in(12);
-    let mut text = if dense {
-        crowded(random)
-    } else {
-        match random.below(8) {
-            0 => scattered(random, any_counts),
-            1 => scattered(random, extreme_counts),
-            2 => derivable(random, any_counts),
-            3 => derivable(random, extreme_counts),
-            4 | 5 => derivable(random, small_counts),
-            6 => ambiguous(random),
-            _ => crossing(random),
-        }
+    let shape = match random.below(12) {
+        0 => Shape::Crowded,
+        1..=3 => Shape::Several,
+        _ => Shape::Other,
+    };
+    let mut text = match shape {
+        Shape::Crowded => crowded(random),
+        Shape::Several => several(random),
+        Shape::Other => other(random),
     };
     if random.once_in(2) {
         let entries = alike::entries(text.words.len(), random);
@@ -77,8 +92,20 @@ pub fn draw(random: &mut Random) -> Drawn {
     let most_alike = alike::most_alike(&text);
     Drawn {
         text,
-        dense,
+        shape,
         most_alike,
+    }
+}
+
+fn other(random: &mut Random) -> CardText {
+    match random.below(8) {
+        0 => scattered(random, any_counts),
+        1 => scattered(random, extreme_counts),
+        2 => derivable(random, any_counts),
+        3 => derivable(random, extreme_counts),
+        4 | 5 => derivable(random, small_counts),
+        6 => ambiguous(random),
+        _ => crossing(random),
     }
 }
 
@@ -196,6 +223,19 @@ fn crowded(random: &mut Random) -> CardText {
     while productions.len() < counts.productions {
         productions.push(pair_production(random, &counts));
     }
+    text(random, &counts, productions)
+}
+
+/// Lines have several readings, which differ in what is given and taken where.
+fn several(random: &mut Random) -> CardText {
+    let counts = Counts {
+        nonterminals: random.between(1, 3),
+        words: random.between(1, 3),
+        indices: random.between(0, 3),
+        productions: 0,
+    };
+    let sizes = [counts.nonterminals, counts.words, counts.indices];
+    let productions = readings::productions(random, sizes);
     text(random, &counts, productions)
 }
 

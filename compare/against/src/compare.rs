@@ -9,6 +9,7 @@ use crate::room::Room;
 use crate::tally::Tally;
 use crate::verify;
 use independent::closure;
+use independent::enumeration::Bounds;
 use independent::item::Item;
 use independent::random::Random;
 use independent::rewriting;
@@ -21,6 +22,13 @@ pub struct Effort {
     /// Trials of a production that the rewriting recognizer may make for a line, over all its lists
     /// of words.
     pub recognizer_work: usize,
+    /// How far all plans of a line are enumerated, and how many trials the search for its first
+    /// plan may make.
+    pub enumeration: Bounds,
+    pub search_work: usize,
+    /// Other orders are tried for one in so many of the lines with several plans and few items;
+    /// where dependents compete, for each.
+    pub lines_a_trial: usize,
     /// Most items for which the naive closure is made.
     pub closure_items: usize,
     /// Lengths of chart room for a sheet, and for each of these of output room, beside the ones
@@ -122,25 +130,26 @@ impl Comparison<'_> {
     }
 
     fn accepted(&mut self, input: &Input) -> Outcome {
-        let items = Items::of(input, self.scratch);
+        let mut items = Items::of(input, self.scratch);
         match &items.held {
             None => self.tally.lines_too_large += 1,
-            Some(held) if held.has_reading => self.tally.lines_read += 1,
+            Some(held) if held.has_reading() => self.tally.lines_read += 1,
             Some(_) => self.tally.lines_not_read += 1,
         }
         self.closure(input, &items)?;
         self.recognizer(input, &items)?;
-        let plans = self.reads(input, &items)?;
-        for plan in &plans {
-            self.plan(input, plan)?;
-        }
+        let found = self.first_plan(input, &mut items)?;
+        self.reads(input, &items)?;
+        let plan = items.plan();
         if input.has_several_lists() {
-            self.count_lists(input, plans.first());
+            self.count_lists(input, plan);
         }
-        if let Some(plan) = plans.first() {
+        if let (Some(plan), Some(found)) = (plan, found) {
+            self.plan(input, plan)?;
+            self.other_plans(input, items.count(), plan, &found)?;
             self.other_words(input, plan)?;
         }
-        self.damaged_plans(input, plans.first())
+        self.damaged_plans(input, plan)
     }
 
     /// The item set against the naive closure, where that is affordable.
@@ -180,14 +189,14 @@ impl Comparison<'_> {
         let found = rewriting::derives(card, line, self.effort.recognizer_work).ok();
         self.tally.recognizer(found, input.has_several_lists());
         let verdict = match found {
-            Some(found) => verify::expect("reading", held.has_reading, found.derives),
+            Some(found) => verify::expect("reading", held.has_reading(), found.derives),
             None => Ok(()),
         };
         blame(&ChartParser, input, &[], [None; 3], verdict)
     }
 
-    /// Read with several room lengths; the plans that came of it.
-    fn reads(&mut self, input: &Input, items: &Items) -> Result<Vec<Vec<u8>>, Box<Disagreement>> {
+    /// Read with several room lengths.
+    fn reads(&mut self, input: &Input, items: &Items) -> Outcome {
         let words = input.accepted().map_or(1, |(_, line)| line.len());
         let least_plan = 4 * (2 * words - 1);
         let mut lengths = vec![(
@@ -205,15 +214,14 @@ impl Comparison<'_> {
         self.reads_in(input, items, &lengths)
     }
 
-    /// Read with these lengths of chart and plan room; the plans that came of it.
+    /// Read with these lengths of chart and plan room.
     pub fn reads_in(
         &mut self,
         input: &Input,
         items: &Items,
         lengths: &[(usize, usize)],
-    ) -> Result<Vec<Vec<u8>>, Box<Disagreement>> {
+    ) -> Outcome {
         let words = input.accepted().map_or(1, |(_, line)| line.len());
-        let mut plans: Vec<Vec<u8>> = Vec::new();
         for &(chart, plan) in lengths {
             let number = items.read_number(words, chart, plan);
             self.tally.number(number);
@@ -223,17 +231,14 @@ impl Comparison<'_> {
                 chart.restore();
                 plan.restore();
                 let rooms = [Some(chart.length()), Some(plan.length()), None];
-                match verify::read(calls, input, items, &mut chart, &mut plan) {
-                    Ok(Some(found)) if !plans.contains(&found) => plans.push(found),
-                    Ok(_) => {}
-                    Err(what) => blame(calls, input, plan.now(), rooms, Err(what))?,
-                }
+                let verdict = verify::read(calls, input, items, &mut chart, &mut plan);
+                blame(calls, input, plan.now(), rooms, verdict)?;
             }
         }
-        Ok(plans)
+        Ok(())
     }
 
-    fn damaged_plans(&mut self, input: &Input, plan: Option<&Vec<u8>>) -> Outcome {
+    fn damaged_plans(&mut self, input: &Input, plan: Option<&[u8]>) -> Outcome {
         let Some((card, line)) = input.accepted() else {
             return Ok(());
         };

@@ -1,6 +1,6 @@
 //! What each call has to answer, from the slow implementations. Only the number of items, and
 //! whether the start is among them, come from the independent chart parser, whose charts are
-//! verified in turn.
+//! verified in turn. So does the plan of a line that is too much for the slow ways.
 
 use independent::card::Card;
 use independent::chart;
@@ -93,7 +93,15 @@ pub struct Items {
 pub struct Held {
     /// The seven bytes of each item, in order.
     pub keys: Vec<u64>,
-    pub has_reading: bool,
+    /// The plan that Read has to write, if the line has a reading: the independent chart parser's,
+    /// until one of the slow ways has found the first plan.
+    pub plan: Option<Vec<u8>>,
+}
+
+impl Held {
+    pub fn has_reading(&self) -> bool {
+        self.plan.is_some()
+    }
 }
 
 /// The item's part of a record.
@@ -103,7 +111,7 @@ pub fn key(record: &[u8; 16]) -> u64 {
 
 impl Items {
     pub fn of(input: &Input, scratch: &mut Scratch) -> Self {
-        let mut plan = [0; PLAN_ROOM];
+        let mut plan = vec![0; PLAN_ROOM];
         let answer = chart::read(
             input.card_bytes,
             input.line_bytes,
@@ -119,12 +127,18 @@ impl Items {
             .map(key)
             .collect();
         keys.sort_unstable();
+        plan.truncate(4 * usize::from(answer.steps));
         Items {
             held: Some(Held {
                 keys,
-                has_reading: answer.number == 0,
+                plan: (answer.number == 0).then_some(plan),
             }),
         }
+    }
+
+    /// The plan that Read has to write where rooms are long enough.
+    pub fn plan(&self) -> Option<&[u8]> {
+        self.held.as_ref()?.plan.as_deref()
     }
 
     /// How many there are; one more than any room holds if there are too many.
@@ -139,7 +153,7 @@ impl Items {
         }
         match &self.held {
             Some(held) if held.keys.len() <= chart_room / 16 => {
-                if held.has_reading {
+                if held.has_reading() {
                     0
                 } else {
                     25

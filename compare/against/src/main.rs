@@ -10,17 +10,22 @@ use against::compare::{Comparison, Effort, Outcome};
 use against::damage;
 use against::edges;
 use against::expected::Scratch;
+use against::first;
 use against::lines;
 use against::names;
 use against::rooms;
 use against::sheet;
 use against::tally::Tally;
+use independent::enumeration::Bounds;
 use independent::random::Random;
 use independent::write::CardText;
 use std::process::ExitCode;
 use std::time::Instant;
 
 const DEFAULT_CASES: u64 = 120_000;
+
+/// So many lines with two plans or more, and with their first plan found, are to be met.
+const LEAST_SEVERAL: u64 = 20_000;
 
 /// One case in so many has a sheet as well.
 const CASES_A_SHEET: u64 = 16;
@@ -32,6 +37,12 @@ const EFFORT: Effort = Effort {
     other_rooms: 2,
     damaged_plans: 4,
     recognizer_work: 30_000,
+    enumeration: Bounds {
+        plans: 200,
+        work: 4_000,
+    },
+    search_work: 30_000,
+    lines_a_trial: 6,
     closure_items: 40,
     sheet_rooms: 2,
 };
@@ -60,6 +71,10 @@ fn main() -> ExitCode {
         return ExitCode::FAILURE;
     }
     println!("edges: {edges}");
+    if let Some((order, _)) = edges.plans.orders().find(|(_, count)| *count == 0) {
+        println!("on no edge: {order}");
+        return ExitCode::FAILURE;
+    }
     let mut tally = Tally::default();
     for case in options.range() {
         if let Err(disagreement) = run(&options, case, &mut tally, &mut scratch) {
@@ -90,6 +105,10 @@ fn seen_all(tally: &Tally) -> ExitCode {
         println!("never occurred: {}", missing.join(", "));
         return ExitCode::FAILURE;
     }
+    if tally.plans.several_found() < LEAST_SEVERAL {
+        println!("too few lines with several plans whose first was found");
+        return ExitCode::FAILURE;
+    }
     if !tally.recognizer_decided_most() {
         println!("the rewriting recognizer gave up too often");
         return ExitCode::FAILURE;
@@ -112,6 +131,10 @@ fn edge_cases(who: Who, tally: &mut Tally, scratch: &mut Scratch) -> Outcome {
     room_edges(&mut comparison)?;
     for edge in edges::shared_spellings() {
         comparison.known(&edge)?;
+        comparison.tally.cases += 1;
+    }
+    for edge in first::edges::all() {
+        comparison.first_known(&edge)?;
         comparison.tally.cases += 1;
     }
     for edge in names::edges::all() {
@@ -143,7 +166,7 @@ fn run(options: &Options, case: u64, tally: &mut Tally, scratch: &mut Scratch) -
     let mut random = Random::for_case(options.seed, case);
     let drawn = cards::draw(&mut random);
     let most_words = drawn.most_words(&mut random);
-    let words = lines::draw(&drawn.text, &mut random, most_words);
+    let words = drawn.line(&mut random, most_words);
     let mut line = lines::spell(&drawn.text, &mut random, &words);
     let mut card = drawn.text.bytes();
     if random.once_in(8) {

@@ -87,15 +87,16 @@ impl Comparison<'_> {
     /// Read in each of these rooms, with plan room enough.
     pub fn rooms(&mut self, rooms: &Rooms) -> Outcome {
         let input = Input::new(&rooms.card, &rooms.line);
-        let items = Items::of(&input, self.scratch);
+        let mut items = Items::of(&input, self.scratch);
         let verdict = verify::expect("items", items.count(), rooms.items);
         blame(&ChartParser, &input, &[], [None; 3], verdict)?;
+        self.first_plan(&input, &mut items)?;
         let lengths: Vec<(usize, usize)> = rooms
             .lengths
             .iter()
             .map(|&chart| (chart, PLAN_ROOM))
             .collect();
-        self.reads_in(&input, &items, &lengths).map(|_| ())
+        self.reads_in(&input, &items, &lengths)
     }
 
     /// Read under a card that gets 42, which leaves all rooms as they were.

@@ -1,9 +1,11 @@
-//! Comparing whole sheets. A line may have several plans, and which of them is found is free; but
-//! the same line in the same room always gets the same one. So a sheet has to have what the calls
-//! on its lines have, one after the other, and these are verified as they are for a line alone.
+//! Comparing whole sheets. The number, the line and every record are worked out from the lines'
+//! first plans. Only the chart room is taken from the implementation itself: the order of items is
+//! free, so a sheet has to leave what its reads of the lines leave, one after the other, and these
+//! are verified as they are for a line alone.
 
 pub mod compare;
 pub mod draw;
+mod due;
 pub mod edges;
 mod input;
 mod reads;

@@ -10,7 +10,7 @@ use independent::rewriting;
 
 impl Comparison<'_> {
     /// Counts a line with several lists of words, and by which of its words it was read.
-    pub fn count_lists(&mut self, input: &Input, plan: Option<&Vec<u8>>) {
+    pub fn count_lists(&mut self, input: &Input, plan: Option<&[u8]>) {
         let Some((card, line)) = input.accepted() else {
             return;
         };

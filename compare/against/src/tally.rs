@@ -2,12 +2,14 @@
 
 mod names;
 mod numbers;
+pub mod plans;
 mod shared;
 
 use independent::answers::SheetAnswer;
 use independent::rewriting::Found;
 use names::Names;
 use numbers::Numbers;
+use plans::Plans;
 use shared::{Questions, Shared};
 use std::fmt;
 
@@ -29,6 +31,7 @@ pub struct Tally {
     /// The rewriting recognizer's questions about lines with one list of words, and with several.
     one_list: Questions,
     several_lists: Questions,
+    pub plans: Plans,
     pub shared: Shared,
     pub names: Names,
 }
@@ -70,7 +73,7 @@ impl Tally {
     }
 
     /// What never occurred: refusals of any call, of sheets, and of lines that are not the first of
-    /// a sheet; and what shared spellings and dead names should have brought about.
+    /// a sheet; and what several plans, shared spellings and dead names should have brought about.
     pub fn missing(&self) -> Vec<String> {
         let refusals = [
             ("a call", self.numbers.missing(&REFUSALS)),
@@ -86,7 +89,10 @@ impl Tally {
         });
         let shared = self.shared.counts();
         let shared = shared.map(|(what, count)| (what.to_string(), count));
-        let counts = shared.into_iter().chain(self.names.counts());
+        let counts = shared
+            .into_iter()
+            .chain(self.plans.counts())
+            .chain(self.names.counts());
         let never = counts.filter(|(_, count)| *count == 0);
         refusals.chain(never.map(|(what, _)| what)).collect()
     }
@@ -122,6 +128,9 @@ impl fmt::Display for Tally {
             self.charts_closed
         )?;
         self.write_recognizer(f)?;
+        if !self.plans.is_empty() {
+            write!(f, "; {}", self.plans.list())?;
+        }
         if self.shared.lines > 0 {
             self.write_shared(f)?;
         }

@@ -8,7 +8,6 @@ use independent::answers::{NameAnswer, PairsAnswer, ReadAnswer};
 use independent::card::{Action, Card, Production};
 use independent::item::Record;
 use independent::line::Spelled;
-use independent::replay::replay;
 use independent::steps;
 
 pub type Verdict = Result<(), String>;
@@ -72,14 +71,14 @@ pub fn refused_read(
     )
 }
 
-/// Read on an accepted input; the plan, if there is one.
+/// Read on an accepted input.
 pub fn read(
     calls: &dyn Calls,
     input: &Input,
     items: &Items,
     chart: &mut Room,
     plan: &mut Room,
-) -> Result<Option<Vec<u8>>, String> {
+) -> Verdict {
     let (card, line) = input.accepted().ok_or("input is refused")?;
     let answer = calls.read(
         input.card_bytes,
@@ -112,14 +111,23 @@ pub fn read(
         "plan room changed past the plan",
         plan.untouched_after(plan_length),
     )?;
-    if number != 0 {
-        return Ok(None);
+    match number {
+        0 => is_due(input, items, &plan.now()[..plan_length]),
+        _ => Ok(()),
     }
-    let plan = plan.now()[..plan_length].to_vec();
-    match replay(card, line, &plan) {
-        Some(_) => Ok(Some(plan)),
-        None => Err(format!("the plan {plan:?} is no leftmost derivation")),
+}
+
+/// Every byte of a plan is decided by card and line.
+fn is_due(input: &Input, items: &Items, plan: &[u8]) -> Verdict {
+    let due = items.plan().ok_or("a plan for a line without a reading")?;
+    if plan == due {
+        return Ok(());
     }
+    let fault = match input.replayed(plan) {
+        Ok(_) => "is not the first plan",
+        Err(_) => "is no leftmost derivation",
+    };
+    Err(format!("the plan {plan:?} {fault}, expected {due:?}"))
 }
 
 /// The whole chart is there, each record is a step, each item stands once, the rest is untouched.

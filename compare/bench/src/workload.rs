@@ -1,5 +1,7 @@
 //! Cards and lines to measure with.
 
+mod one_name;
+
 use crate::sheet::SheetWorkload;
 use independent::chart;
 use independent::random::Random;
@@ -38,20 +40,25 @@ pub fn all() -> Vec<Workload> {
     let mut overflow = dense(60_000);
     overflow.name += ", room of 4000";
     overflow.chart_room = 16 * 4_000;
-    vec![
+    let mut list = vec![
         tomato_of(1),
         tomato_of(4),
         tomato_of(11),
         ambiguous_of(24),
+        plain(),
         dense(4_000),
         dense(60_000),
         overflow,
+    ];
+    list.extend(one_name::all());
+    list.extend([
         limits(),
         worst_found(),
         twins_of(1),
         twins_of(4),
         twins_of(11),
-    ]
+    ]);
+    list
 }
 
 /// The first of them is the one whose time line by line is reported by itself.
@@ -66,8 +73,12 @@ pub fn sheets() -> [SheetWorkload; 4] {
 }
 
 /// The cards that the calls on a card alone are measured with.
-pub fn cards() -> [(&'static str, CardText); 2] {
-    [("tomato", tomato()), ("limits", limits_card())]
+pub fn cards() -> [(&'static str, CardText); 3] {
+    [
+        ("tomato", tomato()),
+        ("limits", limits_card()),
+        ("varied", varied_card()),
+    ]
 }
 
 /// A tomato line with as many feeds as materials.
@@ -114,6 +125,29 @@ pub fn ambiguous_of(words: usize) -> Workload {
         line,
         words,
     )
+}
+
+/// Three nonterminals without any index, each of which is any two of them, and makes both words:
+/// every stretch is read in every way.
+fn plain() -> Workload {
+    let names = [0, 1, 2];
+    let mut productions = Vec::new();
+    for a in names {
+        productions.extend([0, 1].map(|word| [0, a, word, 0, 0, 0]));
+        for b in names {
+            for c in names {
+                productions.extend([3, 4].map(|kind| [kind, a, b, c, 0, 0]));
+            }
+        }
+    }
+    let text = CardText {
+        nonterminals: 3,
+        indices: 0,
+        words: ["coir", "wool"].map(String::from).to_vec(),
+        productions,
+    };
+    let line = text.line(&[0, 1].repeat(12));
+    Workload::new(String::from("plain, 24 words"), text.bytes(), line, 24)
 }
 
 /// A card drawn at random with 64 productions, and a line that is read with about so many items.
@@ -189,6 +223,43 @@ fn limits_card() -> CardText {
         words: letters.map(|last| format!("nurseryrow{last}")).collect(),
         productions,
     }
+}
+
+/// As long as a card can be. No two productions are equal, all kinds are there, and words have 1 to
+/// 11 letters.
+fn varied_card() -> CardText {
+    let mut random = Random::new(780);
+    let (nonterminals, indices) = (16, 8);
+    let mut productions: Vec<[u8; 6]> = (0..nonterminals).map(|a| [0, a, 2 * a, 0, 0, 0]).collect();
+    while productions.len() < 64 {
+        let kind = 1 + productions.len() as u8 % 6;
+        let index = match kind {
+            3 | 4 => 0,
+            _ => random.between(1, indices) as u8,
+        };
+        let [a, b, c] = [(); 3].map(|()| random.below(nonterminals.into()) as u8);
+        let production = [kind, a, b, c, index, 0];
+        if !productions.contains(&production) {
+            productions.push(production);
+        }
+    }
+    random.shuffle(&mut productions);
+    CardText {
+        nonterminals,
+        indices: indices as u8,
+        words: (0..32)
+            .map(|number| spelling(number, &mut random))
+            .collect(),
+        productions,
+    }
+}
+
+/// A word of 1 to 11 letters and digits, the first of which tells it from the others.
+fn spelling(number: usize, random: &mut Random) -> String {
+    let signs = b"abcdefghijklmnopqrstuvwxyz0123456789";
+    let others = (0..number % 11).map(|_| *random.pick(signs));
+    let bytes = std::iter::once(signs[number]).chain(others);
+    bytes.map(char::from).collect()
 }
 
 /// The slowest for Read that a search of twenty minutes found, among lines that are read and lines

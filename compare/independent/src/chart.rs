@@ -11,6 +11,7 @@ mod record;
 mod sheet;
 mod spellings;
 mod tables;
+mod tails;
 mod unfold;
 mod unset;
 mod uses;

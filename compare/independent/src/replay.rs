@@ -12,6 +12,12 @@ struct Index {
     given_by: usize,
 }
 
+/// The steps between which an index was there.
+struct Taken {
+    given_by: usize,
+    taken_by: usize,
+}
+
 #[derive(Clone)]
 enum Symbol {
     Word(u8),
@@ -52,17 +58,16 @@ pub fn replay(card: &Card, line: &[Spelled], plan: &[u8]) -> Option<Replayed> {
         symbol: Symbol::Nonterminal(0, Vec::new()),
         ancestors: Vec::new(),
     }];
-    // For each give step, the step that took its index.
-    let mut taken_by = vec![None; steps.len()];
+    let mut taken = Vec::new();
     for (number, &[production, ..]) in steps.iter().enumerate() {
         let production = card.productions.get(usize::from(production))?;
-        replace_leftmost(&mut form, number, production, &mut taken_by)?;
+        replace_leftmost(&mut form, number, production, &mut taken)?;
     }
     let words = list_of_words(&form)?;
     if !spells_line(card, &words, line) || !stretches_agree(&form, steps) {
         return None;
     }
-    let pairs = pairs(card, &form, steps, &taken_by)?;
+    let pairs = pairs(card, &form, steps, &taken)?;
     Some(Replayed { words, pairs })
 }
 
@@ -70,27 +75,22 @@ fn replace_leftmost(
     form: &mut Vec<Descendant>,
     step: usize,
     production: &Production,
-    taken_by: &mut [Option<usize>],
+    taken: &mut Vec<Taken>,
 ) -> Option<()> {
     let leftmost = form
         .iter()
         .position(|descendant| matches!(descendant.symbol, Symbol::Nonterminal(..)))?;
-    let Descendant {
-        symbol: Symbol::Nonterminal(nonterminal, stack),
-        ancestors,
-    } = form[leftmost].clone()
-    else {
+    let Descendant { symbol, ancestors } = &form[leftmost];
+    let Symbol::Nonterminal(nonterminal, stack) = symbol else {
         return None;
     };
+    if production.left() != *nonterminal {
+        return None;
+    }
     let right_side = match production {
-        Production::Word { head, word } => {
-            (*head == nonterminal && stack.is_empty()).then(|| vec![Symbol::Word(*word)])?
-        }
+        Production::Word { word, .. } => stack.is_empty().then(|| vec![Symbol::Word(*word)])?,
         Production::Pair(pair) => {
-            if pair.head != nonterminal {
-                return None;
-            }
-            let rest = rewritten(pair.action, stack, step, taken_by)?;
+            let rest = rewritten(pair.action, stack.clone(), step, taken)?;
             elements(pair, rest)
         }
     };
@@ -100,7 +100,8 @@ fn replace_leftmost(
         ancestors.push(Element { step, place });
         Descendant { symbol, ancestors }
     });
-    form.splice(leftmost..=leftmost, descendants.collect::<Vec<_>>());
+    let descendants: Vec<Descendant> = descendants.collect();
+    form.splice(leftmost..=leftmost, descendants);
     Some(())
 }
 
@@ -109,15 +110,16 @@ fn rewritten(
     action: Action,
     mut stack: Vec<Index>,
     step: usize,
-    taken_by: &mut [Option<usize>],
+    taken: &mut Vec<Taken>,
 ) -> Option<Vec<Index>> {
     match action {
         Action::Take(g) => {
-            let top = stack.pop()?;
-            if top.index != g {
+            let Index { index, given_by } = stack.pop()?;
+            if index != g {
                 return None;
             }
-            taken_by[top.given_by] = Some(step);
+            let taken_by = step;
+            taken.push(Taken { given_by, taken_by });
         }
         Action::Keep => {}
         Action::Give(g) => stack.push(Index {
@@ -180,7 +182,7 @@ fn pairs(
     card: &Card,
     form: &[Descendant],
     steps: &[[u8; 4]],
-    taken_by: &[Option<usize>],
+    taken: &[Taken],
 ) -> Option<Vec<[u8; 2]>> {
     let is_give = |step: &usize| {
         let production = card.productions[usize::from(steps[*step][0])];
@@ -189,7 +191,8 @@ fn pairs(
     (0..steps.len())
         .filter(is_give)
         .map(|give| {
-            let both = [give, taken_by[give]?];
+            let taken = taken.iter().find(|taken| taken.given_by == give)?;
+            let both = [give, taken.taken_by];
             let [given, taken] = both.map(|step| side_start(card, form, steps, step));
             Some([given?, taken?])
         })

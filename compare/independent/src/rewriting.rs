@@ -12,7 +12,7 @@
 
 use crate::card::{Action, Card, PairProduction, Place, Production};
 use crate::line::{Spelled, word_lists};
-use std::collections::HashMap;
+use crate::memory::Memory;
 
 /// The search was given up.
 #[derive(Debug)]
@@ -37,7 +37,7 @@ pub fn derives(card: &Card, line: &[Spelled], mut work: usize) -> Result<Found, 
         let mut search = Search {
             card,
             words: &words,
-            known: HashMap::new(),
+            known: Memory::default(),
             work,
         };
         if search.whole_list()? {
@@ -62,7 +62,7 @@ struct Question {
 struct Search<'a> {
     card: &'a Card,
     words: &'a [u8],
-    known: HashMap<Question, bool>,
+    known: Memory<Question, bool>,
     work: usize,
 }
 

@@ -17,6 +17,7 @@ use against::compare::{Comparison, Effort, Outcome};
 use against::expected::Scratch;
 use against::tally::Tally;
 use enumerate::lists;
+use independent::enumeration::Bounds;
 use independent::random::Random;
 use independent::write::CardText;
 use plans::Tried;
@@ -34,6 +35,12 @@ const EFFORT: Effort = Effort {
     other_rooms: 1,
     damaged_plans: 1,
     recognizer_work: 4_000_000,
+    enumeration: Bounds {
+        plans: 1_000,
+        work: 12_000,
+    },
+    search_work: 4_000_000,
+    lines_a_trial: 6,
     closure_items: 60,
     sheet_rooms: 3,
 };

@@ -1,7 +1,8 @@
 //! All comparisons that one card and one sheet allow.
 
-use super::input::{Line, Sheet};
-use super::reads::{Due, due};
+use super::due::Due;
+use super::input::Sheet;
+use super::reads;
 use crate::calls::Calls;
 use crate::compare::{Comparison, Outcome};
 use crate::disagreement::Disagreement;
@@ -12,11 +13,15 @@ use independent::answers::SheetAnswer;
 impl Comparison<'_> {
     /// A sheet with several lengths of both rooms.
     pub fn sheet(&mut self, card: &[u8], sheet: &[u8]) -> Outcome {
-        let sheet = Sheet::new(card, sheet, self.scratch);
-        for Line { input, items } in &sheet.different {
-            if let Some(items) = items {
-                self.closure(input, items)?;
-                self.recognizer(input, items)?;
+        let mut sheet = Sheet::new(card, sheet, self.scratch);
+        for line in &mut sheet.different {
+            let Some(items) = &mut line.items else {
+                continue;
+            };
+            self.closure(&line.input, items)?;
+            self.recognizer(&line.input, items)?;
+            if let Some(found) = self.first_plan(&line.input, items)? {
+                line.add_pairs(&found);
             }
         }
         for length in self.chart_lengths(&sheet) {
@@ -64,40 +69,28 @@ impl Comparison<'_> {
             let rooms = [Some(chart.length()), output];
             Disagreement::on_sheet(calls, sheet.card_bytes, sheet.bytes, rooms, what)
         };
-        let due = due(calls, sheet, chart, self.random).map_err(|what| report(None, what))?;
+        let due = Due::of(sheet, chart.length());
+        let left = reads::left(calls, sheet, chart, self.random);
+        let left = left.map_err(|what| report(None, what))?;
         for length in self.output_lengths(due.records.len()) {
             let mut output = Room::new(length, self.random);
-            let expected = answer(&due, length);
+            let expected = due.answer(length);
             self.tally.sheet(&expected, sheet.has_several_lists());
-            verify(calls, sheet, &due, expected, chart.clone(), &mut output)
+            if sheet.has_other_pairs() {
+                self.tally.plans.sheet(expected.number);
+            }
+            let mut chart = chart.clone();
+            let answer = calls.sheet(sheet.card_bytes, sheet.bytes, chart.lend(), output.lend());
+            expect("sheet", answer, expected)
+                .and_then(|()| is_written(&due, expected, &output))
+                .and_then(|()| is_left(&chart, &left))
                 .map_err(|what| report(Some(length), what))?;
         }
         Ok(())
     }
 }
 
-/// What the sheet has to answer with output room of this length.
-fn answer(due: &Due, output: usize) -> SheetAnswer {
-    match due.number {
-        0 if output < 3 * due.records.len() => SheetAnswer::refused(33, 0),
-        0 => SheetAnswer {
-            records: due.records.len() as u32,
-            ..SheetAnswer::default()
-        },
-        number => SheetAnswer::refused(number, due.line),
-    }
-}
-
-fn verify(
-    calls: &dyn Calls,
-    sheet: &Sheet,
-    due: &Due,
-    expected: SheetAnswer,
-    mut chart: Room,
-    output: &mut Room,
-) -> Verdict {
-    let answer = calls.sheet(sheet.card_bytes, sheet.bytes, chart.lend(), output.lend());
-    expect("sheet", answer, expected)?;
+fn is_written(due: &Due, expected: SheetAnswer, output: &Room) -> Verdict {
     let bytes = match expected.number {
         0 => due.records.as_flattened(),
         _ => &[],
@@ -106,12 +99,15 @@ fn verify(
     demand(
         "output room changed past the records",
         output.untouched_after(bytes.len()),
-    )?;
+    )
+}
+
+fn is_left(chart: &Room, left: &Room) -> Verdict {
     demand(
         "bytes around the chart room changed",
         chart.untouched_after(chart.length()),
     )?;
-    same_chart(chart.now(), due.chart.now())
+    same_chart(chart.now(), left.now())
 }
 
 fn same_chart(found: &[u8], left: &[u8]) -> Verdict {

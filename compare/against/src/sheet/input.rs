@@ -1,6 +1,7 @@
 //! A sheet as it has to be read, from the slow implementations.
 
 use crate::expected::{Input, Items, PLAN_ROOM, Scratch};
+use crate::first::Found;
 use independent::card::Card;
 use independent::sheet;
 
@@ -17,6 +18,10 @@ pub struct Line<'a> {
     pub input: Input<'a>,
     /// None if the line is refused before its items matter.
     pub items: Option<Items>,
+    /// Those of its first plan, once that is known, and whether another plan is known to have
+    /// others.
+    pub pairs: Vec<[u8; 2]>,
+    other_pairs: bool,
 }
 
 impl<'a> Sheet<'a> {
@@ -51,6 +56,11 @@ impl<'a> Sheet<'a> {
         self.different.iter().any(several)
     }
 
+    /// Whether some line has other pairs in another plan.
+    pub fn has_other_pairs(&self) -> bool {
+        self.different.iter().any(|line| line.other_pairs)
+    }
+
     /// How many items the lines have, each number once, the least first.
     pub fn item_counts(&self) -> Vec<usize> {
         let items = self.different.iter().filter_map(|line| line.items.as_ref());
@@ -65,7 +75,25 @@ impl<'a> Line<'a> {
     fn new(card_bytes: &'a [u8], line_bytes: &'a [u8], scratch: &mut Scratch) -> Self {
         let input = Input::new(card_bytes, line_bytes);
         let items = input.accepted().map(|_| Items::of(&input, scratch));
-        Line { input, items }
+        Line {
+            input,
+            items,
+            pairs: Vec::new(),
+            other_pairs: false,
+        }
+    }
+
+    /// The pairs that the replayer finds in the line's first plan, which is there by now.
+    pub fn add_pairs(&mut self, found: &Found) {
+        let pairs = |plan: &[u8]| {
+            let replayed = self.input.replayed(plan).ok();
+            replayed.map_or(Vec::new(), |replayed| replayed.pairs)
+        };
+        let plan = self.items.as_ref().and_then(Items::plan);
+        let due = plan.map_or(Vec::new(), pairs);
+        let mut others = found.others().into_iter();
+        self.other_pairs = others.any(|other| pairs(other.as_flattened()) != due);
+        self.pairs = due;
     }
 
     /// Read's number for the line, with chart room of this length and plan room enough.

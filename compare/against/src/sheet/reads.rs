@@ -5,19 +5,8 @@ use super::input::{Line, Sheet};
 use crate::calls::Calls;
 use crate::expected::PLAN_ROOM;
 use crate::room::Room;
-use crate::verify;
+use crate::verify::{self, Verdict};
 use independent::random::Random;
-
-/// What the sheet has to answer and to leave, but for its output room.
-pub struct Due {
-    /// 0 if all lines are read.
-    pub number: u16,
-    /// The line that the number is about, or 0.
-    pub line: u8,
-    pub chart: Room,
-    /// Those of the lines that are read.
-    pub records: Vec<[u8; 3]>,
-}
 
 /// Rooms that are lent to one line after the other.
 struct Lent {
@@ -26,69 +15,45 @@ struct Lent {
     pairs: Room,
 }
 
-/// What was wrong with the read of a line, or else what is due from the sheet.
-pub fn due(
+/// The chart room as the reads leave it, up to the first that fails, or what was wrong with one.
+pub fn left(
     calls: &dyn Calls,
     sheet: &Sheet,
     chart: &Room,
     random: &mut Random,
-) -> Result<Due, String> {
+) -> Result<Room, String> {
     let mut lent = Lent {
         chart: chart.clone(),
         plan: Room::new(PLAN_ROOM, random),
         pairs: Room::new(PLAN_ROOM, random),
     };
-    let mut records = Vec::new();
-    let (number, line) = match sheet.lines() {
-        Err(number) => (number, 0),
-        Ok(lines) => read_all(calls, &lines, &mut lent, &mut records)?,
-    };
-    Ok(Due {
-        number,
-        line,
-        chart: lent.chart,
-        records,
-    })
-}
-
-/// The number at which reading ends, and its line.
-fn read_all(
-    calls: &dyn Calls,
-    lines: &[&Line],
-    lent: &mut Lent,
-    records: &mut Vec<[u8; 3]>,
-) -> Result<(u16, u8), String> {
-    for (place, line) in lines.iter().enumerate() {
-        let found = read_line(calls, line, lent);
+    let lines = sheet.lines().unwrap_or_default();
+    for (place, line) in lines.into_iter().enumerate() {
+        let verdict = read_line(calls, line, &mut lent);
+        verdict.map_err(|what| format!("line {place} alone: {what}"))?;
         lent.chart.keep();
-        let place = place as u8;
-        match found.map_err(|what| format!("line {place} alone: {what}"))? {
-            Ok(pairs) => records.extend(pairs.into_iter().map(|[give, take]| [place, give, take])),
-            Err(number) => return Ok((number, place)),
+        if line.number(chart.length()) != 0 {
+            break;
         }
     }
-    Ok((0, 0))
+    Ok(lent.chart)
 }
 
-/// The pairs that the replayer finds in the line's plan, or the line's refusal.
-fn read_line(
-    calls: &dyn Calls,
-    line: &Line,
-    lent: &mut Lent,
-) -> Result<Result<Vec<[u8; 2]>, u16>, String> {
+/// Read, and Pairs where there is a plan.
+fn read_line(calls: &dyn Calls, line: &Line, lent: &mut Lent) -> Verdict {
     let Lent { chart, plan, pairs } = lent;
     plan.restore();
     pairs.restore();
-    let number = line.number(chart.length());
-    let Line { input, items } = line;
+    let Line { input, items, .. } = line;
     let Some(items) = items else {
-        verify::refused_read(calls, input, chart, plan)?;
-        return Ok(Err(number));
+        return verify::refused_read(calls, input, chart, plan);
     };
-    let Some(plan) = verify::read(calls, input, items, chart, plan)? else {
-        return Ok(Err(number));
-    };
-    let replayed = input.replayed(&plan).map(|replayed| replayed.pairs);
-    verify::pairs(calls, input, &plan, &replayed, pairs)?;
-    Ok(replayed)
+    verify::read(calls, input, items, chart, plan)?;
+    match items.plan() {
+        Some(plan) if line.number(chart.length()) == 0 => {
+            let due = Ok(line.pairs.clone());
+            verify::pairs(calls, input, plan, &due, pairs)
+        }
+        _ => Ok(()),
+    }
 }

@@ -33,8 +33,10 @@ impl Extent {
 }
 
 pub struct Tables<const GROUPS: usize, const TAILS: usize> {
-    /// Start and end of each group that is not empty. An item with an empty stack is the first.
+    /// Start and end of each group that is not empty.
     pub ranges: Unset<(u16, u16), GROUPS>,
+    /// For each group that has one, the item with an empty stack.
+    pub bare: Unset<u16, GROUPS>,
     /// For each group, the last one that has all its tails: its number plus one, or 0.
     pub covered_by: Unset<u16, GROUPS>,
     /// For each tail, the last group that has it: its number plus one, or 0.
@@ -54,6 +56,7 @@ impl<const GROUPS: usize, const TAILS: usize> Tables<GROUPS, TAILS> {
     pub fn new() -> Self {
         Tables {
             ranges: Unset::new(),
+            bare: Unset::new(),
             covered_by: Unset::new(),
             had_by: Unset::new(),
             served_first: Unset::new(),

@@ -26,16 +26,14 @@ pub struct Roles {
 impl Roles {
     /// The productions served by a nonterminal that has, over some stretch, an item with an
     /// empty stack or not, and items with the indices of the productions `indexed`.
-    pub fn served(&self, empty: bool, indexed: u64) -> u64 {
-        let side = if empty { self.side } else { 0 };
+    pub fn served(&self, bare: bool, indexed: u64) -> u64 {
+        let side = if bare { self.side } else { 0 };
         side | self.dependent | self.giver & indexed
     }
 }
 
 pub struct ProductionSets {
     pub uses: [Uses; 16],
-    /// Productions whose second element is the dependent: kinds 1, 3 and 5.
-    pub right_dependent: u64,
     /// Productions of kinds 1 to 6 by index.
     pub indexed: [u64; 9],
     /// Word productions by word.
@@ -47,7 +45,6 @@ impl ProductionSets {
     pub fn empty() -> Self {
         ProductionSets {
             uses: [Uses::default(); 16],
-            right_dependent: 0,
             indexed: [0; 9],
             words: [0; 32],
         }
@@ -67,7 +64,6 @@ impl ProductionSets {
         }
         self.uses[a].headed |= production;
         if kind % 2 == 1 {
-            self.right_dependent |= production;
             self.uses[b].first.side |= production;
             Self::add_dependent(&mut self.uses[c].second, kind, production);
         } else {

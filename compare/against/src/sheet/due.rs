@@ -1,0 +1,54 @@
+//! What a sheet has to answer and to write.
+
+use super::input::Sheet;
+use independent::answers::SheetAnswer;
+
+/// The same for every length of output room.
+pub struct Due {
+    /// 0 if all lines are read.
+    number: u16,
+    /// The line that the number is about, or 0.
+    line: u8,
+    /// The pairs of the lines' first plans, those before a line that fails included.
+    pub records: Vec<[u8; 3]>,
+}
+
+impl Due {
+    /// With chart room of this length.
+    pub fn of(sheet: &Sheet, chart_room: usize) -> Self {
+        let mut due = Due {
+            number: 0,
+            line: 0,
+            records: Vec::new(),
+        };
+        let lines = match sheet.lines() {
+            Ok(lines) => lines,
+            Err(number) => return Due { number, ..due },
+        };
+        for (place, line) in (0..).zip(lines) {
+            let number = line.number(chart_room);
+            if number != 0 {
+                return Due {
+                    number,
+                    line: place,
+                    ..due
+                };
+            }
+            let records = line.pairs.iter().map(|&[give, take]| [place, give, take]);
+            due.records.extend(records);
+        }
+        due
+    }
+
+    /// With output room of this length.
+    pub fn answer(&self, output_room: usize) -> SheetAnswer {
+        match self.number {
+            0 if output_room < 3 * self.records.len() => SheetAnswer::refused(33, 0),
+            0 => SheetAnswer {
+                records: self.records.len() as u32,
+                ..SheetAnswer::default()
+            },
+            number => SheetAnswer::refused(number, self.line),
+        }
+    }
+}
