@@ -60,10 +60,10 @@ extern "C" {
  * changes an answer or a layout raises the major number, and one that only adds a call the minor
  * one.
  */
-#define LIG_VERSION_MAJOR 3
+#define LIG_VERSION_MAJOR 4
 #define LIG_VERSION_MINOR 0
 #define LIG_VERSION_PATCH 0
-#define LIG_VERSION "3.0.0"
+#define LIG_VERSION "4.0.0"
 
 /*
  * Refusals
@@ -257,14 +257,19 @@ uint64_t lig_card_check(const uint8_t *card, size_t card_length);
  * split, to. The nonterminal comes to the words between from and to, and the first element of the
  * production to those up to split; a word's step has split = to.
  *
+ * Nothing of the plan is free. Where a line has several derivations the plan is the first of all:
+ * plans are compared step by step from the left, by production number and then by split, and of
+ * the first step in which two differ the lower number decides. Equal productions of a card are told
+ * apart by their number, and so are words that are spelled alike by that of their production. So
+ * equal cards and lines get equal plans and pairs, from every controller. lig_check passes the plan,
+ * as it passes any other derivation of the line.
+ *
  * The bytes of a room past its chart or plan are untouched.
  *
  * Free, so rely on no more than is said here:
  *   - the order of the records; each stands after those that it names
  *   - which step a record holds where several derive its item; it is one that does
  *   - which item of its dependent's stretch a taking step names; a plan need not go on there
- *   - which derivation the plan is where the line has several, and so as which of the words spelled
- *     alike a place is read; lig_check passes it for this card and this line
  */
 uint64_t lig_read(const uint8_t *card, size_t card_length,
                   const uint8_t *line, size_t line_length,
@@ -345,8 +350,9 @@ uint64_t lig_name(const uint8_t *card, size_t card_length, size_t word);
  * record does not say which word a place was read as. If that matters, read line by line: the plan
  * that lig_read writes says it.
  *
- * Free: what is free with lig_read, for each line. So which pairs a line has is free where it has
- * several derivations; they are those of one plan of it, which lig_check passes.
+ * A line's pairs are those of its first plan, the one that lig_read writes. So number, line, records
+ * and every byte of the output room are decided by card, sheet and the rooms' lengths. Free is only
+ * what is free with lig_read: the chart that a read leaves.
  */
 uint64_t lig_sheet(const uint8_t *card, size_t card_length,
                    const uint8_t *sheet, size_t sheet_length,
