@@ -368,17 +368,17 @@ uint64_t lig_sheet(const uint8_t *card, size_t card_length,
  *
  *     line of        1 to 6 words   7 to 12 words   13 to 24 words
  *     lig_card_check     120             120             120
- *     lig_read        14,792          15,936          63,272
- *     lig_read/few    14,792          15,936          36,280
+ *     lig_read        16,528          17,872          65,192
+ *     lig_read/few    16,528          17,872          38,200
  *     lig_check        1,240           1,240           1,240
  *     lig_pairs        1,320           1,320           1,320
  *     lig_name           136             136             136
- *     lig_sheet       17,256          18,400          65,736
- *     lig_sheet/few   17,256          18,400          38,744
+ *     lig_sheet       18,992          20,336          67,656
+ *     lig_sheet/few   18,992          20,336          40,664
  *
  * lig_read/few and lig_sheet/few are these calls with a card of at most 6 nonterminals. Of a sheet
  * the longest line counts, and not how many lines there are. Under a card that is accepted lig_read
- * takes at least 13,584 of them, also for a line that it refuses. lig_sheet takes 2,464 more than
+ * takes most of the first column also for a line that it refuses. lig_sheet takes 2,464 more than
  * lig_read, in every column: it keeps the records of all lines until the last line is read. The
  * figures below have at least 128 bytes to spare, as much as a function may use below the stack
  * pointer. Interrupts that run on the same stack come on top.
@@ -401,13 +401,13 @@ uint64_t lig_sheet(const uint8_t *card, size_t card_length,
  * docs/PERFORMANCE.md has the times of all workloads.
  */
 #define LIG_STACK_CARD_CHECK 256
-#define LIG_STACK_READ 63872
-#define LIG_STACK_READ_FEW 36864 /* with a card of at most 6 nonterminals */
+#define LIG_STACK_READ 65792
+#define LIG_STACK_READ_FEW 38784 /* with a card of at most 6 nonterminals */
 #define LIG_STACK_CHECK 1408
 #define LIG_STACK_PAIRS 1536
 #define LIG_STACK_NAME 512
-#define LIG_STACK_SHEET 66432
-#define LIG_STACK_SHEET_FEW 39424 /* with a card of at most 6 nonterminals */
+#define LIG_STACK_SHEET 68352
+#define LIG_STACK_SHEET_FEW 41344 /* with a card of at most 6 nonterminals */
 
 #ifdef __cplusplus
 }
