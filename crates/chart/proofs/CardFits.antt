@@ -1,22 +1,20 @@
 -- What an accepted card gives the builder: where each production stands, that its rule keeps the counts, and that there are few.
+-- All of it is by the card's acceptance.
 use Prim.Native.Nat.{ℕ, _≤_, _<_}
 use native.Mathlib.Omega.{arith}
 use mathlib.Core.Path.{_≡_, refl, sym, subst}
 use mathlib.Core.List.{List}
-use mathlib.Core.Option.{some}
-use lib.ListN.{length, getElem?}
+use lib.ListN.{length}
 use Rattle.grammar.specs.Lists.{Stands}
 use Rattle.grammar.specs.Rewriting.{Rule, Lexical, Spine}
 use Rattle.grammar.proofs.StandsLaws.{stands-getElem}
-use Rattle.layout.specs.Bytes.{counted}
-use Rattle.layout.specs.Card.{maxNonterminals, maxProductions}
-use Rattle.layout.specs.Card.{cardNumber, nonterminalCount, productionCount, production, grammarOf, productionTable}
+use Rattle.layout.specs.Card.{maxNonterminals, maxProductions, cardNumber, nonterminalCount, productionTable, productionCount, production, grammarOf}
 use Rattle.layout.proofs.Accepting.{accepted-counts}
 use Rattle.layout.proofs.RuleLaws.{production-counted, rule-more}
 use Rattle.card.specs.Productions.{ProductionThere}
 use Rattle.chart_model.proofs.Exact.{leftOf}
 use Rattle.steps.specs.Fits.{RuleFits}
-use Rattle.sets.proofs.CardRules.{rules-length, rule-there, rule-in, few-rules}
+use Rattle.sets.proofs.CardRules.{rules-length, rule-in, few-rules}
 
 module _ (card : List ℕ) (accepted : cardNumber card ≡ 0) where
   pub few-names : nonterminalCount card ≤ maxNonterminals
@@ -26,9 +24,6 @@ module _ (card : List ℕ) (accepted : cardNumber card ≡ 0) where
   few-length = omega (arith, few-rules card accepted, rules-length card (productionCount card))
 
   module _ (p : ℕ) (h : p < productionCount card) where
-    pub production-stands : getElem? (grammarOf card) p ≡ some (production card p)
-    production-stands = rule-there card (productionCount card) p h
-
     pub production-there : {table : ℕ} → table ≡ productionTable card → ProductionThere card table p
     production-there e = record { accepted = accepted; starts = e; counted = h }
 

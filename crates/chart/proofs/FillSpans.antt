@@ -193,9 +193,10 @@ cellTurn card places sizes i j = fillCell (sizes .room) (grammarOf card) (wordTe
 -- The next cell of a span is opened: it may be filled, and what filling it leaves is a turn of the model.
 module _ {sizes : Sizes} {total i j A : ℕ} {cell : OpenCell} (opened : OpenedAt sizes A i j total cell) where
   pub turn-fillable : {card chart marks cells sets places mid marks′ cells′ sets′ : List ℕ} {count set : ℕ}
-      → Ready card sizes chart marks cells sets count → SpanSet places i j sets set → i < j → j ≤ sizes .words → ((B : ℕ) → positions (chartIn chart count) B i j ≡ []) → OnlySpans sets sets′
-      → FilledTo card sizes (foldUp (cellTurn card places sizes i j) A (some (chartIn chart count))) chart mid marks′ cells′ sets′ total → total ≤ sizes .room
-      → A < sizes .symbols → Fillable card places cell mid marks′ cells′ sets′ (bitAnd (getD sets′ A 0) set)
+      → Ready card sizes chart marks cells sets count → SpanSet places i j sets set → i < j → j ≤ sizes .words
+      → ((B : ℕ) → positions (chartIn chart count) B i j ≡ []) → OnlySpans sets sets′
+      → FilledTo card sizes (foldUp (cellTurn card places sizes i j) A (some (chartIn chart count))) chart mid marks′ cells′ sets′ total
+      → total ≤ sizes .room → A < sizes .symbols → Fillable card places cell mid marks′ cells′ sets′ (bitAnd (getD sets′ A 0) set)
   turn-fillable {card} {chart} {places = places} {mid} {marks′} {cells′} {sets′} {count} {set} r found ij jn empty only sofar fits l =
       let b = r .between in
       let state = state-some (sizes .room) total mid (sofar .model) fits in

@@ -1,4 +1,5 @@
--- `build::fill_cell` meets its contract. An item did not fit, nothing was new, or the cell has records: each is one law of FillCells.
+-- `build::fill_cell` meets its contract. An item did not fit, nothing was new, or the cell has records: each is one law of FillCells. The sets
+-- change in the last case alone, and there only those of the spans.
 use native.Mathlib.Omega.{arith}
 use mathlib.Core.Path.{refl}
 use borrow.Author.Needs.{needs}
@@ -114,8 +115,8 @@ returns-3 c =
       cell-filled (p .between) (p .inside) (p .fresh) e
           (cell-state (a .chart .now) (i .fill-items .last .0) (a .cell .base) (i .fill-items .result) (a .cell .room) (grammarOf (a .card .now))
           (wordTest (a .places .now)) (a .cell .left) (a .cell .from) (a .cell .to) (e .added .model) fits (p .inside .1))
-          fits (more .if2 .left) (finished .finish .ensures) (p .numbered) (fill-there p (i .fill-items .last .1 .1 .0) (e .sameCells)) (put .put-range .ensures)
-          (noted .note .ensures),
+          fits (more .if2 .left) (finished .finish .ensures) (p .numbered) (fill-there p (i .fill-items .last .1 .1 .0) (e .sameCells))
+          (put .put-range .ensures) (noted .note .ensures),
       noted .note .ensures .elsewhere,
     )
 

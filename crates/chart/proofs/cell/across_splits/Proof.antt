@@ -13,7 +13,8 @@ use Rattle.bits.proofs.BitSets.{bit-zero-unless, Walk, walk-start, walk-from, w
 use Rattle.records.specs.Room.{chartIn}
 use Rattle.records.specs.Filling.{begunWith}
 use Rattle.sets.proofs.CardRules.{few-rules}
-use Rattle.steps.proofs.StepCover.{Known, Advancing, advanced-as, advance-start, advance-wider, advance-filling, advance-past, advance-turn, advance-over, advance-rest-known}
+use Rattle.steps.proofs.StepCover.{Known, Advancing, advanced-as, advance-start, advance-wider, advance-filling}
+use Rattle.steps.proofs.StepCover.{advance-past, advance-turn, advance-over, advance-rest-known}
 use Rattle.chart.proofs.CardFits.{production-there, production-fits}
 use Rattle.chart.proofs.CellLaws.{atSplit, left-out}
 use borrow.Author.Needs.{needs}

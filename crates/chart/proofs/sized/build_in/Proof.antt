@@ -1,4 +1,5 @@
 -- `sized::build_in` meets its contract: each choice has tables for the words and the nonterminals that its tests leave.
+-- The tests are in terms of what the code read of the card.
 use Prim.Native.Nat.{ℕ, _≤_}
 use native.Mathlib.Omega.{arith}
 use borrow.Author.Needs.{needs}
