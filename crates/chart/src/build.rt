@@ -112,9 +112,9 @@ fn close_span(
     let mut a = sets::next_left(sets, set, 0, symbols);
     let mut total = count;
     while a < symbols {
-        let own = sets[a] & set;
+        let productions = sets[a] & set;
         let cell = open_cell(sizes, a, i, j, total);
-        total = fill_cell(chart, marks, cells, sets, cell, card, places, own);
+        total = fill_cell(chart, marks, cells, sets, cell, card, places, productions);
         if sizes.room < total {
             return total;
         }

@@ -23,22 +23,22 @@ fn continue_each(
     ensures { λ r. ⌜ AddedTo cell (overRange (continues cell side y (begunWith cell (now (chart .entry)))) range)
         (now (chart .entry)) (now (marks .entry)) count (now (chart .exit)) (now (marks .exit)) r ⌝ }
 {
-    let mut z = range.from;
+    let mut position = range.from;
     let mut total = count;
-    while z < range.to {
-        let foot = records::record::foot_at(chart, z);
-        let number = records::record::number_at(chart, z);
+    while position < range.to {
+        let foot = records::record::foot_at(chart, position);
+        let number = records::record::number_at(chart, position);
         let origin = Origin {
             production: side.production,
             side: side.position,
             dependent: y,
-            continuation: z as u16,
+            continuation: position as u16,
         };
         total = records::add::add(chart, marks, cell, foot, number, origin, total);
         if cell.room < total {
             return total;
         }
-        z += 1;
+        position += 1;
     }
     total
 }

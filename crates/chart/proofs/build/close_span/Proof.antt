@@ -117,11 +117,11 @@ loop-holds c =
       (refl, λ s h. refl),
     )
 
-mul-own : tie.Need-mul-own Inv-loop μ-loop
-mul-own c = omega (arith, c .loop-test .taken, ready (begun (c .before)) .between .symbolsFit)
+mul-productions : tie.Need-mul-productions Inv-loop μ-loop
+mul-productions c = omega (arith, c .loop-test .taken, ready (begun (c .before)) .between .symbolsFit)
 
-slice-read-own : tie.Need-slice-read-own Inv-loop μ-loop
-slice-read-own c =
+slice-read-productions : tie.Need-slice-read-productions Inv-loop μ-loop
+slice-read-productions c =
     let test = c .before in
     let r = ready (begun (test .before)) .between in
     omega (arith, test .loop-test .taken, r .symbolsFit, r .classified .long, test .before .loop .inv .5 .0)
@@ -223,8 +223,8 @@ close-span-spec =
     returns
     next-left-requires
     loop-holds
-    mul-own
-    slice-read-own
+    mul-productions
+    slice-read-productions
     open-cell-requires
     fill-cell-requires
     same-length-2

@@ -11,12 +11,12 @@ use Rattle.steps.proofs.give.continue_each.Statement.{statement}
 use Rattle.steps.proofs.give.continue_each.Tie as tie
 
 abbrev Inv-loop : tie.InvT-loop
-Inv-loop chart₀ marks₀ cell side y range count z₀ total₀ chart marks z total =
+Inv-loop chart₀ marks₀ cell side y range count position₀ total₀ chart marks position total =
     Looped (cell .words) (cell .symbols) (cell .room) (cell .left) (cell .from) (cell .to) (continues cell side y (begunWith cell chart₀))
-    (range .from) (range .to) chart₀ marks₀ count chart marks z total
+    (range .from) (range .to) chart₀ marks₀ count chart marks position total
 
 abbrev μ-loop : tie.MeasureT-loop
-μ-loop chart₀ marks₀ cell side y range count z₀ total₀ chart marks z total = range .to - z
+μ-loop chart₀ marks₀ cell side y range count position₀ total₀ chart marks position total = range .to - position
 
 -- The start, from a turn; the turn, from its call of `add`; and the record that the call adds.
 abbrev start : tie.Then1 Inv-loop μ-loop → tie.Start Inv-loop μ-loop
@@ -27,7 +27,7 @@ turn c = c .before .before .before .before .before .before .before
 
 one : (c : tie.After-add Inv-loop μ-loop) → let a = start (turn c) .args in
     let l = turn c .before .before .loop in
-    AddedTo (a .cell) (continues (a .cell) (a .side) (a .y) (begunWith (a .cell) (a .chart .now)) (l .z)) (l .chart) (l .marks) (l .total)
+    AddedTo (a .cell) (continues (a .cell) (a .side) (a .y) (begunWith (a .cell) (a .chart .now)) (l .position)) (l .chart) (l .marks) (l .total)
     (c .add .last .0) (c .add .last .1 .0) (c .add .result)
 one c =
     let t = turn c in
@@ -72,8 +72,8 @@ returns c =
     let t = turn k in
     loop-over (t .before .before .loop .inv) (t .if1 .taken) (one k) (c .if2 .taken)
 
-add-z : tie.Need-add-z Inv-loop μ-loop
-add-z c =
+add-position : tie.Need-add-position Inv-loop μ-loop
+add-position c =
     let t = turn (c .before .before .before .before .before .before) in
     omega (arith, turn-small (start t .pre) (t .before .before .loop .inv) (t .if1 .taken))
 
@@ -109,7 +109,7 @@ continue-each-spec =
     same-length
     same-length-2
     returns
-    add-z
+    add-position
     loop-less
     loop-again
     same-length-3
