@@ -18,14 +18,14 @@ use Rattle.layout.specs.Card.{production, productionCount, grammarOf}
 use Rattle.layout.specs.Steps.{stepsOf, pairsBytes}
 use Rattle.layout.specs.Answers.{planPairs, pairsAfter}
 use Rattle.goals.specs.Shown.{actionOf, stepFrom, StepAt}
-use Rattle.check_pairs.specs.Matching.{CanGive, RoomToMatch, inHand, Matches, Matched}
+use Rattle.check_pairs.specs.Matching.{HasWords, CanGive, CanMatch, inHand, Matches, Matched}
 use Rattle.check_pairs.specs.declared.matching.Matching.{Matching}
 use Rattle.goals.specs.declared.replay.StepBytes.{StepBytes}
 use Rattle.goals.proofs.ShownLaws.{tops-length}
 use Rattle.goals.proofs.AdvanceLaws.{rule-there, rule-missing}
 use Rattle.check_pairs.proofs.Paced.{Paced, pacedNone, paced, Waits, takes-rule, matched-rule}
 use Rattle.layout.proofs.Lengths.{plan-bytes-length, pairs-bytes-length}
-use Rattle.check_pairs.proofs.Passed.{planOf, Passed, suffix-step, paced-drop, matched-drop}
+use Rattle.check_pairs.proofs.Passed.{planOf, Passed, suffix-step, paced-drop, matched-drop, drop-stands}
 
 -- A step in front of the rest.
 record Front (g : List Rule) (st : PlanStep) (whole rest : List PlanStep) (R : Rule) : Type 0 where
@@ -33,14 +33,15 @@ record Front (g : List Rule) (st : PlanStep) (whole rest : List PlanStep) (R : R
   pairs : matched g whole ≡ matchedAction (actionOf R) (sideOf R st) (takesOf g rest) (matched g rest)
   few : length (takesOf g rest) ≤ 24
   waits : Waits (actionOf R) (takesOf g rest)
+  words : HasWords (sideOf R st)
 
 paced-few : {g : List Rule} {plan : List PlanStep} → Paced g plan → length (takesOf g plan) ≤ 24
 paced-few pacedNone = omega arith
 paced-few (paced e l w x) = l
 
 front : {g : List Rule} {st : PlanStep} {rest : List PlanStep} {R : Rule} → getElem? g (productionIn st) ≡ some R → Paced g (st ∷ rest)
-    → Front g st (st ∷ rest) rest R
-front {g} {st} {rest} {R} e (paced {R = R′} e′ l w x) =
+    → HasWords (sideOf R st) → Front g st (st ∷ rest) rest R
+front {g} {st} {rest} {R} e (paced {R = R′} e′ l w x) h =
     let q : R′ ≡ R = some-same (sym e′ ∙ e) in
     record {
       takes = ap (λ (o : Option Rule). takesRule o st (takesOf g rest)) e ∙ takes-rule R st (takesOf g rest);
@@ -48,6 +49,7 @@ front {g} {st} {rest} {R} e (paced {R = R′} e′ l w x) =
           ∙ matched-rule R st (takesOf g rest) (matched g rest);
       few = paced-few x;
       waits = subst (λ (R : Rule). Waits (actionOf R) (takesOf g rest)) q w;
+      words = h;
     }
 
 -- The number of a step that has a rule is below the card's count.
@@ -85,7 +87,9 @@ module _ (card plan : List ℕ) (x : Passed card plan) where
 
     step-back : (R : Rule) → R ≡ production card (st .number)
         → Front (grammarOf card) (stepFrom st) (drop s (planOf plan)) (drop (suc s) (planOf plan)) R
-    step-back R r = rw here (front (rule-there card (st .number) step-there ∙ ap some (sym r)) paced-here)
+    step-back R r =
+        let e = rule-there card (st .number) step-there ∙ ap some (sym r) in
+        rw here (front e paced-here (x .sides s (stepFrom st) R (drop-stands (planOf plan) s here) e))
 
   -- The steps are a quarter of the bytes.
   steps-length : length plan ≡ 4 * length (planOf plan)
@@ -169,8 +173,9 @@ module _ (card plan : List ℕ) (x : Passed card plan) where
           (λ (s : ℕ). Front (grammarOf card) (stepFrom st) (drop (left - 1) (planOf plan)) (drop s (planOf plan)) R)
           e (step-back (left - 1) st (omega (arith, w .inPlan)) a R r)
 
-      pub writing-room : count ≡ length (planPairs card (stepsOf plan)) → {b : Action} → b ≡ actionOf R → RoomToMatch b room at
-      writing-room e d =
+      pub writing-room : count ≡ length (planPairs card (stepsOf plan)) → {b : Action} → b ≡ actionOf R → {side : Stretch}
+          → side ≡ sideOf R (stepFrom st) → CanMatch b side room at
+      writing-room e d u =
           let g = grammarOf card in
           let m = w .matches in
           let ts = takesOf g (drop left (planOf plan)) in
@@ -180,7 +185,8 @@ module _ (card plan : List ℕ) (x : Passed card plan) where
           let p = ap length (this .pairs) ∙ matchedAction-length (actionOf R) _ _ xs in
           let q = matched-drop g (planOf plan) (left - 1) in
           let c : count ≡ length (matched g (planOf plan)) = e ∙ ap length (x .pairs) in
-          rw d (record {
+          rw (d, u) (record {
+            words = this .words;
             few = omega (arith, this .few);
             inRoom = omega (arith, writing-length, m .total, m .within);
             gives = can-give (actionOf R) at ts (length xs) count (this .waits) k (omega arith) (m .total);

@@ -1,17 +1,21 @@
--- What a plan that passes Check has: an accepted card, bytes that are those of its steps, from any step on, and takes that are paced.
+-- What a plan that passes Check has: an accepted card, bytes that are those of its steps, from any step on, takes that are paced, and sides
+-- with words.
 -- From Check's theorems and the machine on goals; what is said of the rest of a plan is by induction on where it starts.
 use Prim.Native.Nat.{ℕ, zero, suc, _+_, _*_, _≤_}
 use native.Mathlib.Omega.{arith}
 use mathlib.Core.Path.{_≡_, refl, sym, _∙_, ap, subst}
 use mathlib.Core.List.{List, [], _∷_}
 use mathlib.Core.Option.{Option, none, some}
-use lib.ListN.{length, drop}
+use lib.ListN.{length, drop, getElem?}
 use lib.Seq.{drop-nil}
 use Rattle.grammar.specs.Rewriting.{Rule}
-use Rattle.grammar.specs.Plan.{PlanStep, planStep}
-use Rattle.grammar.proofs.StandsLaws.{some-same}
+use Rattle.grammar.specs.Lists.{Stands, here, there}
+use Rattle.grammar.specs.Plan.{PlanStep, planStep, productionIn}
+use Rattle.grammar.specs.Pairs.{Stretch, sideOf}
+use Rattle.grammar.proofs.StandsLaws.{some-same, getElem-stands}
 use Rattle.grammar.specs.Matching.{matched}
 use Rattle.grammar.proofs.PairsLaws.{matched-length, pairs-matched}
+use Rattle.grammar.proofs.Sides.{InLine, inLine, comes-in-line, side-comes}
 use Rattle.layout.specs.Card.{cardNumber, grammarOf}
 use Rattle.layout.specs.Steps.{planBytes, stepsOf, andStep}
 use Rattle.layout.specs.Answers.{inputNumber, wordsIn, lineTest, Derives, checkNumber, planPairs}
@@ -23,6 +27,7 @@ use Rattle.goals.specs.declared.replay.StepBytes.{StepBytes}
 use Rattle.goals.proofs.GoalsTest.{goals-complete}
 use Rattle.goals.proofs.GoalsTiled.{tiled-start}
 use Rattle.goals.proofs.ReplayLaws.{steps-from}
+use Rattle.check_pairs.specs.Matching.{HasWords}
 use Rattle.check_pairs.proofs.Paced.{Paced, pacedNone, paced, run-paced}
 
 -- The steps of a plan's bytes.
@@ -33,11 +38,19 @@ stepsElse (some steps) = steps
 abbrev pub planOf : List ℕ → List PlanStep
 planOf bytes = stepsElse (stepsOf bytes)
 
+-- Each step's side has words.
+abbrev pub SidesHaveWords : List Rule → List PlanStep → Type 0
+SidesHaveWords g plan = (m : ℕ) (st : PlanStep) (R : Rule) → Stands plan m st → getElem? g (productionIn st) ≡ some R → HasWords (sideOf R st)
+
+in-line-words : {n : ℕ} {side : Stretch} → InLine n side → HasWords side
+in-line-words (inLine l k) = l
+
 pub record Passed (card plan : List ℕ) : Type 0 where
   pub accepted : cardNumber card ≡ 0
   pub bytes : plan ≡ planBytes (planOf plan)
   pub pairs : planPairs card (stepsOf plan) ≡ matched (grammarOf card) (planOf plan)
   pub pace : Paced (grammarOf card) (planOf plan)
+  pub sides : SidesHaveWords (grammarOf card) (planOf plan)
 
 pub passed : (card line plan : List ℕ) → checkNumber card line plan ≡ 0 → Passed card plan
 passed card line plan e =
@@ -58,6 +71,8 @@ passed card line plan e =
           bytes = e₂ ∙ ap planBytes (sym z);
           pairs = ap (planPairs card) s ∙ (pairs-matched d ∙ ap (matched g) (sym z));
           pace = subst (Paced g) (sym z) p;
+          sides = subst (SidesHaveWords g) (sym z)
+              (λ m st R t e. in-line-words (comes-in-line (side-comes d t (getElem-stands g (productionIn st) e))));
         }
 
 -- The rest of a plan from step s on.
@@ -87,3 +102,8 @@ matched-drop g steps zero = omega arith
 matched-drop g [] (suc s) = omega arith
 matched-drop g (planStep p i k j ∷ steps) (suc s) =
     omega (arith, matched-drop g steps s, matched-length g steps, matched-length g (planStep p i k j ∷ steps))
+
+pub drop-stands : {st : PlanStep} {rest : List PlanStep} (steps : List PlanStep) (s : ℕ) → drop s steps ≡ st ∷ rest → Stands steps s st
+drop-stands steps zero e = rw e here
+drop-stands [] (suc s) e = absurd (omega (arith, ap length e))
+drop-stands (x ∷ steps) (suc s) e = there (drop-stands steps s e)

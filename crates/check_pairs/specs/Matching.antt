@@ -17,6 +17,10 @@ use Rattle.check_pairs.specs.declared.matching.Stretch as code
 abbrev pub stretchFrom : code.Stretch → Stretch
 stretchFrom s = stretch (s .from) (s .to)
 
+-- A stretch that is not empty.
+abbrev pub HasWords : Stretch → Type 0
+HasWords (stretch from to) = from < to
+
 -- The plan passes Check for some line.
 abbrev pub Checked : List ℕ → List ℕ → Type 0
 Checked card plan = (line : List ℕ) × (checkNumber card line plan ≡ 0)
@@ -27,7 +31,9 @@ CanGive (Take γ) at = Unit {0}
 CanGive Keep at = Unit {0}
 CanGive (Give γ) at = (0 < at .waiting) × (0 < at .unwritten)
 
-pub record RoomToMatch (a : Action) (room : List ℕ) (at : Matching) : Type 0 where
+-- What one step back needs: a side with words, and a place for what it adds.
+pub record CanMatch (a : Action) (side : Stretch) (room : List ℕ) (at : Matching) : Type 0 where
+  pub words : HasWords side
   pub few : at .waiting ≤ 24
   pub inRoom : 2 * at .unwritten ≤ length room
   pub gives : CanGive a at

@@ -1,4 +1,5 @@
-// The pairs of a plan that passes: each give with the take that removes its index (document 01, "Check, pairs, name").
+// The pairs of a plan that passes: each give with the take that removes its index (document 01, "Check, pairs, name"), and of both the last
+// word of the side (document 02, Paper 6).
 use card::Action;
 use card::Card;
 use card::Production;
@@ -16,7 +17,7 @@ ghost use Rattle.layout.specs.Steps.{stepsOf};
 ghost use Rattle.layout.specs.Answers.{planPairs, pairsAfter};
 ghost use Rattle.card.specs.Productions.{actionFrom, ruleFrom};
 ghost use Rattle.goals.specs.Shown.{actionOf, stepFrom};
-ghost use Rattle.check_pairs.specs.Matching.{stretchFrom, Checked, RoomToMatch, inHand, Matched};
+ghost use Rattle.check_pairs.specs.Matching.{stretchFrom, HasWords, Checked, CanMatch, inHand, Matched};
 
 // How many takes wait for their give, and how many pairs are still to be written.
 pub struct Matching {
@@ -79,11 +80,12 @@ fn side_of(production: Production, step: StepBytes) -> Stretch
     }
 }
 
-// What a pair says of a side: its first word.
+// What a pair says of a side: its last word. A side of a plan that passes has one.
 fn place_in(side: Stretch) -> u8
+    requires { ⌜ HasWords (stretchFrom side) ⌝ }
     ensures { λ r. ⌜ r ≡ placeIn (stretchFrom side) ⌝ }
 {
-    side.from
+    side.to - 1
 }
 
 fn one_give(action: Action) -> usize
@@ -104,7 +106,7 @@ fn match_step(
     room: &mut [u8],
     at: Matching,
 ) -> Matching
-    requires { ⌜ RoomToMatch (actionFrom action) (now room) at ⌝ }
+    requires { ⌜ CanMatch (actionFrom action) (stretchFrom side) (now room) at ⌝ }
     ensures { λ r. ⌜ Matched (actionFrom action) (stretchFrom side) (inHand (now (takes .entry)) (now (room .entry)) at)
         (inHand (now (takes .exit)) (now (room .exit)) r) ⌝ }
 {

@@ -17,7 +17,9 @@ pub mod Existence
 pub mod Unfolding
 pub mod PlanRuns
 pub mod PairsLaws
+pub mod Sides
 pub mod PairsInside
+pub mod LastWords
 pub mod PairsCount
 pub mod EveryPlan
 pub mod Moves

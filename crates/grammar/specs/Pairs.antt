@@ -1,7 +1,8 @@
--- Document 01, "Check, pairs, name": for each give step of a plan, in plan order, the take step that removes that very index.
+-- Document 01, "Check, pairs, name": for each give step of a plan, in plan order, the take step that removes that very index; and document
+-- 02's Paper 6, what a pair says of their two sides.
 -- The plan is replayed on the leftmost nonterminal, and every index on a stack is known by the number of its pair, which is the
 -- number of give steps before its own: so a take, which removes the top of its stack, says whose index it removes.
-use Prim.Native.Nat.{ℕ, zero, suc}
+use Prim.Native.Nat.{ℕ, zero, suc, _-_}
 use mathlib.Core.List.{List, [], _∷_, _++_}
 use mathlib.Core.Option.{Option, none, some}
 use lib.ListN.{length, getElem?}
@@ -24,9 +25,9 @@ sideOf (Spine A a (B ∷ before) D after) (planStep p i k j) = stretch i k
 sideOf (Spine A a [] D []) (planStep p i k j) = stretch i j
 sideOf (Spine A a [] D (C ∷ after)) (planStep p i k j) = stretch k j
 
--- What a pair says of a side's stretch: its first word.
+-- What a pair says of a side's stretch: its last word.
 abbrev pub placeIn : Stretch → ℕ
-placeIn (stretch from to) = from
+placeIn (stretch from to) = to - 1
 
 -- A give's side, and its take's side.
 pub data Pair : Type 0 where

@@ -16,5 +16,7 @@ pub mod Checking
 pub mod Planning
 pub mod Packing
 pub mod Charts
+pub mod TableRows
 pub mod Table
+pub mod LastWords
 pub mod Alike

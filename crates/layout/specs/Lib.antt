@@ -8,3 +8,4 @@ pub mod Steps
 pub mod Written
 pub mod Answers
 pub mod Tomato
+pub mod Rows

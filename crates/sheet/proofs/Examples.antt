@@ -1,4 +1,5 @@
--- Worked examples, computed from the bytes: sheets of document 01's tomato lines, and the answers that document 02 gives for them.
+-- Worked examples, computed from the bytes: sheets of document 01's tomato lines, and of rows with a number, and the answers that document 02
+-- gives for them.
 use Prim.Native.Nat.{ℕ}
 use mathlib.Core.Path.{_≡_, refl}
 use mathlib.Core.List.{List, [], _∷_, _++_}
@@ -8,6 +9,7 @@ use Rattle.grammar.specs.Plan.{PlanStep}
 use Rattle.layout.specs.Card.{headerLength}
 use Rattle.layout.specs.Steps.{stepsOf}
 use Rattle.layout.specs.Tomato.{tomatoCard, coirTakesMild, coirWoolTakesMildRich, coirWoolTakesRichMild, planOne, planTwo}
+use Rattle.layout.specs.Rows.{rowsCard, coir14TakesMild, bothRowsNumbered, planNumbered, planBoth}
 use Rattle.split.specs.Lines.{newline}
 use Rattle.sheet.specs.Sheet.{SheetAnswer, refusedAt, sheetAnswer, sheetBytes, packSheet}
 
@@ -26,11 +28,17 @@ answered sheet room = sheetAnswer tomatoCard sheet 64000 room (steps (stepsOf pl
 abbrev twoOrders : List ℕ
 twoOrders = ended coirTakesMild ++ coirWoolTakesMildRich
 
+-- The same under the card of rows with a number.
+abbrev numbered : List ℕ → ℕ → SheetAnswer
+numbered sheet room = sheetAnswer rowsCard sheet 64000 room (steps (stepsOf planNumbered) ∷ steps (stepsOf planBoth) ∷ [])
+
 record Examples : Type 0 where
   -- two orders: three records of three bytes, with room for them and one byte short
   written : sheetBytes (answered twoOrders 9 .records) ≡ 0 ∷ 0 ∷ 2 ∷ 1 ∷ 0 ∷ 3 ∷ 1 ∷ 1 ∷ 4 ∷ []
   accepted : answered twoOrders 9 .number ≡ 0
   short : answered twoOrders 8 ≡ refusedAt 33 0
+  -- "coir 14 takes mild", "coir 14 wool 15 takes extra mild rich": a record has the last word of each side
+  rows : sheetBytes (numbered (ended coir14TakesMild ++ bothRowsNumbered) 9 .records) ≡ 0 ∷ 1 ∷ 3 ∷ 1 ∷ 1 ∷ 6 ∷ 1 ∷ 3 ∷ 7 ∷ []
   -- the last line with its end is the same sheet
   same : answered (ended twoOrders) 9 ≡ answered twoOrders 9
   -- an empty line in the middle; a line without a reading after one that is read, before one that would fail too; 33 comes after it
@@ -52,6 +60,7 @@ examples =
       written = refl;
       accepted = refl;
       short = refl;
+      rows = refl;
       same = refl;
       empty = refl;
       unread = refl;

@@ -19,7 +19,7 @@ giving c =
     subst (λ (x : Action). CanGive (actionFrom x) (s .args .at)) (c .enum-told3 .given .1) (s .pre .gives)
 
 place-in-requires : tie.Need-place-in-requires
-place-in-requires c κs = search needs
+place-in-requires c κs = c .before .pre .words
 
 enum-told : tie.Need-enum-told
 enum-told c = search needs

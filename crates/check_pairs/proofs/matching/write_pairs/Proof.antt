@@ -67,7 +67,7 @@ match-step-requires c κs =
     let st = c .before .before .before .before .before .before .step-at in
     let d = c .before .before .before .before .production in
     writing-room (a .card .now) (a .plan .now) (l .inv .0) (a .room .now) (a .count) (l .takes) (l .room) (l .at) (l .left) (l .inv .1)
-    (st .result) (ruleFrom (d .result)) (c .before .before .before .before .before .before .before .loop-test .taken) (st .ensures) (meant (c .before .before .before .before)) (s .pre .1 .0) (c .before .before .action-of .ensures)
+    (st .result) (ruleFrom (d .result)) (c .before .before .before .before .before .before .before .loop-test .taken) (st .ensures) (meant (c .before .before .before .before)) (s .pre .1 .0) (c .before .before .action-of .ensures) (c .before .before .before .side-of .ensures)
 
 loop-less : tie.Need-loop-less Inv-loop μ-loop
 loop-less c = search needs
