@@ -95,7 +95,11 @@ static void print_word(struct text line, size_t place)
     printf("%.*s (word %zu)", (int)word.length, (const char *)word.start, place + 1);
 }
 
-/* Here a real controller writes to its valves. */
+/*
+ * Here a real controller writes to its valves. A record names the last word of each side: of the
+ * row "coir 14" the 14, its number, which is what the valve needs, and of the feed "extra mild" the
+ * mild. A row of one word is named by that word.
+ */
 static void set_registers(size_t count)
 {
     printf("  accepted: %zu records\n", count);

@@ -1,15 +1,16 @@
 /*
  * Each call at its limits: the answers, and what the rooms hold afterwards.
  *
- *     limits CARD
+ *     limits TOMATO ROWS
  *
- * Meant for the tomato card. The rooms are lent out of the middle of larger areas that are filled
- * with one byte, so that a byte written outside a room would be seen too.
+ * Meant for the tomato card and the rows card. The rooms are lent out of the middle of larger areas
+ * that are filled with one byte, so that a byte written outside a room would be seen too.
  */
 #include <stdio.h>
 #include <string.h>
 
 #include "lig.h"
+#include "shared.h"
 
 enum { FILL = 0xA5, MARGIN = 16, AREA = 4096, SHEET_ROOM = 8192 };
 
@@ -83,9 +84,12 @@ static void read_limits(void)
     try_read("coir takes mild", 80, 20);
 }
 
-/* lig_check and lig_pairs on a copy of the plan that try_read left last, with one byte changed. */
-static void try_plan(const char *line, size_t plan_length, size_t at, uint8_t value,
-                     size_t pairs_length)
+/*
+ * lig_check and lig_pairs on a copy of the plan that try_read left last, with one byte changed. The
+ * answer is that of lig_pairs.
+ */
+static uint64_t try_plan(const char *line, size_t plan_length, size_t at, uint8_t value,
+                         size_t pairs_length)
 {
     uint8_t plan[LIG_MOST_PLAN_BYTES];
     memcpy(plan, plan_area + MARGIN, sizeof plan);
@@ -98,6 +102,7 @@ static void try_plan(const char *line, size_t plan_length, size_t at, uint8_t va
            plan_length, at, value, line, lig_number(check), lig_number(found), lig_count(found));
     print_room("pair", pair_area, pairs_length);
     printf("\n");
+    return found;
 }
 
 static void plan_limits(void)
@@ -140,8 +145,8 @@ static void print_text(const char *text)
 }
 
 /* lig_sheet on so many copies of a text with another one behind them. */
-static void try_copies(size_t copies, const char *text, const char *last, size_t chart_length,
-                       size_t output_length)
+static uint64_t try_copies(size_t copies, const char *text, const char *last, size_t chart_length,
+                           size_t output_length)
 {
     static uint8_t sheet[SHEET_ROOM];
     size_t length = 0;
@@ -165,11 +170,12 @@ static void try_copies(size_t copies, const char *text, const char *last, size_t
     print_room("chart", chart_area, chart_length);
     print_room("output", output_area, output_length);
     printf("\n");
+    return answer;
 }
 
-static void try_sheet(const char *text, size_t chart_length, size_t output_length)
+static uint64_t try_sheet(const char *text, size_t chart_length, size_t output_length)
 {
-    try_copies(0, "", text, chart_length, output_length);
+    return try_copies(0, "", text, chart_length, output_length);
 }
 
 /* No line, one and two: where a line ends, and which of them fails. */
@@ -311,9 +317,9 @@ static void two_alike(void)
 }
 
 /*
- * Both words make the same nonterminal: there is one item for it, and a plan may say either. Which
- * one lig_read says is free. The other nonterminal stands on no left then, so the card is refused
- * until it stands on no right.
+ * Both words make the same nonterminal: there is one item for it, and a plan may say either.
+ * lig_read says the first, whose production has the lower number. The other nonterminal stands on
+ * no left then, so the card is refused until it stands on no right.
  */
 static void two_for_one(void)
 {
@@ -369,16 +375,60 @@ static void all_alike(void)
     print_words(try_read("mild", 16, 4));
 }
 
-int main(int argc, char **argv)
+/* The first entries of a room, one a line: so many, of so many bytes each. */
+static void print_entries(const char *name, const uint8_t *area, size_t count, size_t size)
 {
-    FILE *file = argc == 2 ? fopen(argv[1], "rb") : NULL;
-    if (file == NULL) {
-        fprintf(stderr, "limits: wants the name of a card that can be read\n");
-        return 2;
+    const uint8_t *entry = area + MARGIN;
+    for (; count > 0; count--, entry += size) {
+        printf("%s", name);
+        for (size_t k = 0; k < size; k++)
+            printf(" %u", entry[k]);
+        printf("\n");
     }
-    card_length = fread(card, 1, sizeof card, file);
-    if (fclose(file) != 0)
-        return 2;
+}
+
+/* The pairs of the line's own plan, in a room that is one byte short of them and in a longer one. */
+static void try_pairs(const char *line, size_t count)
+{
+    uint64_t answer = try_read(line, AREA - 2 * MARGIN, LIG_MOST_PLAN_BYTES);
+    size_t plan_length = LIG_STEP_BYTES * lig_steps(answer);
+    uint8_t first = plan_area[MARGIN];
+    try_plan(line, plan_length, 0, first, LIG_PAIR_BYTES * count - 1);
+    answer = try_plan(line, plan_length, 0, first, LIG_MOST_PAIR_BYTES);
+    print_entries("pair", pair_area, lig_count(answer), LIG_PAIR_BYTES);
+}
+
+/*
+ * On the rows card a row may have a number and a feed may be extra, so a side may have several
+ * words. A pair names the last one, up to the last place that a line has.
+ */
+static void several_words(void)
+{
+    const char *two = "wool 15 takes rich\ncoir 14 wool takes mild extra rich\n";
+    printf("== sides of several words\n");
+    try_card(card_length, 0, 'L');
+    try_pairs("coir takes mild", 1);
+    try_pairs("coir 14 takes mild", 1);
+    try_pairs("coir 14 takes extra mild", 1);
+    try_pairs("coir 14 wool 15 takes extra mild rich", 2);
+    try_pairs("coir takes extra extra extra extra extra extra extra extra extra extra extra extra "
+              "extra extra extra extra extra extra extra extra extra mild", 1);
+    try_read("14 takes mild", 160, 20);
+    try_read("coir 14 15 takes mild", 160, 36);
+    uint64_t answer = try_sheet(two, 400, 9);
+    print_entries("record", output_area, lig_records(answer), LIG_SHEET_RECORD_BYTES);
+}
+
+static int load(const char *name)
+{
+    if (load_card(name, card, sizeof card, &card_length) == 0)
+        return 0;
+    fprintf(stderr, "limits: %s cannot be read\n", name);
+    return -1;
+}
+
+static void tomato_card(void)
+{
     read_limits();
     plan_limits();
     for (size_t word = 0; word <= 5; word++)
@@ -392,5 +442,19 @@ int main(int argc, char **argv)
     two_for_one();
     faults_beside();
     all_alike();
+}
+
+int main(int argc, char **argv)
+{
+    if (argc != 3) {
+        fprintf(stderr, "limits: wants the names of two cards\n");
+        return 2;
+    }
+    if (load(argv[1]) != 0)
+        return 2;
+    tomato_card();
+    if (load(argv[2]) != 0)
+        return 2;
+    several_words();
     return fflush(stdout) == 0 && !ferror(stdout) ? 0 : 2;
 }

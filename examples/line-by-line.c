@@ -34,7 +34,7 @@ static uint64_t reading; /* lig_read's answer for the line */
 static uint8_t chart[CHART_ITEMS * LIG_RECORD_BYTES];
 static uint8_t plan[LIG_MOST_PLAN_BYTES];
 static size_t plan_length;
-static uint8_t pairs[LIG_MOST_PAIR_BYTES];
+static uint8_t pairs[LIG_MOST_PAIR_BYTES]; /* places: the last word of each side */
 static size_t pairs_length;
 static uint64_t names[LIG_MOST_PAIR_BYTES]; /* lig_name's answer for each place in pairs */
 
@@ -123,7 +123,10 @@ static void print_word(size_t k)
            (const char *)card + lig_offset(names[k]), pairs[k]);
 }
 
-/* Here a real controller writes to its valves. */
+/*
+ * Here a real controller writes to its valves. A pair names the last word of each side: of the row
+ * "coir 14" the 14, its number, and of the feed "extra mild" the mild.
+ */
 static void set_registers(void)
 {
     if (pairs_length == 0)

@@ -208,6 +208,25 @@ fn refusals() {
     refused(b"no plan", &card, b"takes", b"");
 }
 
+// Sides of several words: a pair has the last word of each.
+fn rows() {
+    let card = vectors::ROWS;
+    every(
+        b"coir 14 takes extra mild",
+        &card,
+        b"coir 14 takes extra mild",
+        &vectors::ROWS_ONE,
+        2,
+    );
+    every(
+        b"coir 14 wool 15 takes extra mild rich",
+        &card,
+        b"coir 14 wool 15 takes extra mild rich",
+        &vectors::ROWS_TWO,
+        4,
+    );
+}
+
 // The second word spelled as the first, and made by the same nonterminal: the word step for "coir" may name either production. The
 // nonterminal that made it goes from the right sides too, where it would be a dead name.
 fn alike() {
@@ -251,6 +270,7 @@ fn main() {
     let words = vectors::KINDS_LINE;
     let plan = vectors::KINDS_PLAN;
     every(b"every kind", &kinds, &words, &plan, 18);
+    rows();
     alike();
     refusals();
 }
