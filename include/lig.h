@@ -60,10 +60,10 @@ extern "C" {
  * changes an answer or a layout raises the major number, and one that only adds a call the minor
  * one.
  */
-#define LIG_VERSION_MAJOR 4
+#define LIG_VERSION_MAJOR 5
 #define LIG_VERSION_MINOR 0
 #define LIG_VERSION_PATCH 0
-#define LIG_VERSION "4.0.0"
+#define LIG_VERSION "5.0.0"
 
 /*
  * Refusals
@@ -297,8 +297,12 @@ uint64_t lig_check(const uint8_t *card, size_t card_length,
  * With a refusal the count is 0 and the room is untouched.
  *
  * There is one pair for each step that gives an index, in the order of the plan. Its two bytes are
- * places in the line, counted from 0: where the side of that step starts, and where the side of the
- * step starts that takes this very index away. Nothing here is free.
+ * places in the line, counted from 0: the last word of that step's side, and the last word of the
+ * side of the step that takes this very index away. The side of a step is the element that is not
+ * the dependent: its last word is at split - 1 where it stands first, and at to - 1 where it stands
+ * last. It has at least one word, so both places are words of the line. Of "coir 14 takes mild",
+ * where a row is a kind and a number, the pair is 1 and 3: the row's number, and its feed. Nothing
+ * here is free.
  */
 uint64_t lig_pairs(const uint8_t *card, size_t card_length,
                    const uint8_t *line, size_t line_length,
@@ -345,10 +349,10 @@ uint64_t lig_name(const uint8_t *card, size_t card_length, size_t word);
  * chart room is zero in every byte.
  *
  * There is a record for each pair of each line, in the order of the lines and then of the pairs:
- * the line's place, counted from 0, and the two bytes of the pair. The bytes past the records are
- * untouched. A sheet of no lines is accepted, with no records. Where entries are spelled alike, a
- * record does not say which word a place was read as. If that matters, read line by line: the plan
- * that lig_read writes says it.
+ * the line's place, counted from 0, and the two bytes of the pair, each the last word of a side, as
+ * lig_pairs has them. The bytes past the records are untouched. A sheet of no lines is accepted,
+ * with no records. Where entries are spelled alike, a record does not say which word a place was
+ * read as. If that matters, read line by line: the plan that lig_read writes says it.
  *
  * A line's pairs are those of its first plan, the one that lig_read writes. So number, line, records
  * and every byte of the output room are decided by card, sheet and the rooms' lengths. Free is only
