@@ -4,6 +4,7 @@ use crate::alike;
 use crate::lines;
 use crate::names::repair::repair;
 use crate::readings;
+use crate::rows;
 use independent::random::Random;
 use independent::write::{CardText, tomato};
 
@@ -28,22 +29,24 @@ enum Shape {
     Crowded,
     /// Made for several readings.
     Several,
+    /// Made for sides of several words.
+    Rows,
     Other,
 }
 
 impl Drawn {
     /// A length for lines, which are kept short more often than not where there are many items.
     /// Where several words have one spelling, most are so short that all their lists of words can
-    /// be asked about.
+    /// be asked about; under cards made for long sides, which fill the length, all are.
     pub fn most_words(&self, random: &mut Random) -> usize {
         let most = match (self.shape, random.below(30)) {
             (Shape::Crowded, 0) => 24,
             (Shape::Several, 0) => 14,
             (Shape::Crowded | Shape::Several, _) => 8,
-            (Shape::Other, 0..=9) => 24,
-            (Shape::Other, _) => 10,
+            (Shape::Rows | Shape::Other, 0..=9) => 24,
+            (Shape::Rows | Shape::Other, _) => 10,
         };
-        if random.once_in(5) {
+        if random.once_in(5) && self.shape != Shape::Rows {
             return most;
         }
         let short = match self.most_alike {
@@ -58,10 +61,13 @@ impl Drawn {
         most.min(short)
     }
 
-    /// The words of a line of at most so many. Short lines have hardly several readings, so the
-    /// longest of a few is taken for these.
+    /// The words of a line of at most so many. Short lines have hardly several readings, and hardly
+    /// long sides, so the longest of a few is taken for these.
     pub fn line(&self, random: &mut Random, most_words: usize) -> Vec<u8> {
-        let drawn = if self.shape == Shape::Several { 4 } else { 1 };
+        let drawn = match self.shape {
+            Shape::Several | Shape::Rows => 4,
+            Shape::Crowded | Shape::Other => 1,
+        };
         let lines = (0..drawn).map(|_| lines::draw(&self.text, random, most_words));
         lines.max_by_key(Vec::len).unwrap_or_default()
     }
@@ -74,11 +80,13 @@ pub fn draw(random: &mut Random) -> Drawn {
     let shape = match random.below(12) {
         0 => Shape::Crowded,
         1..=3 => Shape::Several,
+        4 | 5 => Shape::Rows,
         _ => Shape::Other,
     };
     let mut text = match shape {
         Shape::Crowded => crowded(random),
         Shape::Several => several(random),
+        Shape::Rows => with_rows(random),
         Shape::Other => other(random),
     };
     if random.once_in(2) {
@@ -236,6 +244,25 @@ fn several(random: &mut Random) -> CardText {
     };
     let sizes = [counts.nonterminals, counts.words, counts.indices];
     let productions = readings::productions(random, sizes);
+    text(random, &counts, productions)
+}
+
+/// Sides of gives and takes have several words.
+fn with_rows(random: &mut Random) -> CardText {
+    let [spine, rows] = [*random.pick(&[1, 1, 2]), random.between(1, 4)];
+    let sizes = rows::Sizes {
+        spine,
+        rows,
+        words: random.between(1, spine + rows),
+        indices: random.between(1, 3),
+    };
+    let productions = rows::productions(random, &sizes);
+    let counts = Counts {
+        nonterminals: sizes.spine + sizes.rows,
+        words: sizes.words,
+        indices: sizes.indices,
+        productions: productions.len(),
+    };
     text(random, &counts, productions)
 }
 

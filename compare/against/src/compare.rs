@@ -5,6 +5,7 @@ use crate::damage;
 use crate::disagreement::Disagreement;
 use crate::edges::Edge;
 use crate::expected::{FULL_ROOM, Input, Items, PLAN_ROOM, Scratch};
+use crate::last::sides;
 use crate::room::Room;
 use crate::tally::Tally;
 use crate::verify;
@@ -256,25 +257,40 @@ impl Comparison<'_> {
 
     /// Check and Pairs on one plan.
     pub fn plan(&mut self, input: &Input, plan: &[u8]) -> Outcome {
-        let replayed = input.replayed(plan).map(|replayed| replayed.pairs);
-        let number = replayed.as_ref().err().copied().unwrap_or(0);
+        let replayed = input.replayed(plan);
+        if let (Ok(card), Ok(replayed)) = (&input.card, &replayed) {
+            self.tally.plans_replayed += 1;
+            self.tally.pairs.plan(&sides::of_plan(card, plan, replayed));
+        }
+        let due = replayed.map(|replayed| replayed.pairs);
+        let number = due.as_ref().err().copied().unwrap_or(0);
         self.tally.number(number);
-        self.tally.plans_replayed += u64::from(number == 0);
-        let count = replayed.as_ref().map_or(0, Vec::len);
-        let enough = 2 * count + self.random.below(4);
-        let lengths = [enough, around(self.random, 2 * count, 2)];
         for &calls in self.who {
             let verdict = verify::check(calls, input, plan, number);
             blame(calls, input, plan, [None; 3], verdict)?;
         }
+        let length = 2 * due.as_ref().map_or(0, Vec::len);
+        let enough = length + self.random.below(4);
+        let lengths = [enough, around(self.random, length, 2)];
+        self.pairs_in(input, plan, &due, lengths)
+    }
+
+    /// Pairs with these lengths of room. Check's number is due, or the pairs are.
+    pub fn pairs_in(
+        &mut self,
+        input: &Input,
+        plan: &[u8],
+        due: &Result<Vec<[u8; 2]>, u16>,
+        lengths: impl IntoIterator<Item = usize>,
+    ) -> Outcome {
         for length in lengths {
-            if number == 0 && length < 2 * count {
+            if due.as_ref().is_ok_and(|pairs| length < 2 * pairs.len()) {
                 self.tally.number(33);
             }
             let mut room = Room::new(length, self.random);
             for &calls in self.who {
                 room.restore();
-                let verdict = verify::pairs(calls, input, plan, &replayed, &mut room);
+                let verdict = verify::pairs(calls, input, plan, due, &mut room);
                 blame(calls, input, plan, [None, None, Some(length)], verdict)?;
             }
         }

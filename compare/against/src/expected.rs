@@ -2,6 +2,7 @@
 //! whether the start is among them, come from the independent chart parser, whose charts are
 //! verified in turn. So does the plan of a line that is too much for the slow ways.
 
+use crate::last::sides::{self, Sides};
 use independent::card::Card;
 use independent::chart;
 use independent::line::{self, Spelled};
@@ -81,6 +82,14 @@ impl<'a> Input<'a> {
         let line = self.line.as_ref().map_err(|number| *number)?;
         let card = self.card.as_ref().map_err(|number| *number)?;
         replay(card, line, plan).ok_or(34)
+    }
+
+    /// The pairs of a plan; none if it does not pass.
+    pub fn sides(&self, plan: &[u8]) -> Vec<Sides> {
+        match (&self.card, self.replayed(plan)) {
+            (Ok(card), Ok(replayed)) => sides::of_plan(card, plan, &replayed),
+            _ => Vec::new(),
+        }
     }
 }
 

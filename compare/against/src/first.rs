@@ -4,7 +4,7 @@
 pub mod edges;
 mod filling;
 pub mod kinds;
-mod known;
+pub mod known;
 mod others;
 pub mod wrong;
 

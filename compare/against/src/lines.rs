@@ -94,7 +94,7 @@ impl Derivation<'_> {
             return None;
         }
         let (side, dependent) = if kind % 2 == 1 { (b, c) } else { (c, b) };
-        let side_budget = self.random.between(1, 3.min(budget - 1));
+        let side_budget = self.side_budget(budget);
         let side = self.expand(side, &[], side_budget)?;
         let dependent = self.expand(dependent, &rest, budget - side.len())?;
         let (mut first, second) = if kind % 2 == 1 {
@@ -104,6 +104,15 @@ impl Derivation<'_> {
         };
         first.extend(second);
         Some(first)
+    }
+
+    /// Most sides are kept short, so that words are left for the spine.
+    fn side_budget(&mut self, budget: usize) -> usize {
+        let most = match self.random.below(4) {
+            0 => 12,
+            _ => 3,
+        };
+        self.random.between(1, most.min(budget - 1))
     }
 }
 

@@ -11,6 +11,7 @@ use against::damage;
 use against::edges;
 use against::expected::Scratch;
 use against::first;
+use against::last;
 use against::lines;
 use against::names;
 use against::rooms;
@@ -26,6 +27,9 @@ const DEFAULT_CASES: u64 = 120_000;
 
 /// So many lines with two plans or more, and with their first plan found, are to be met.
 const LEAST_SEVERAL: u64 = 20_000;
+
+/// So many pairs of plans, with several words on both sides, are to be met.
+const LEAST_BOTH_LONG: u64 = 2_000;
 
 /// One case in so many has a sheet as well.
 const CASES_A_SHEET: u64 = 16;
@@ -71,8 +75,9 @@ fn main() -> ExitCode {
         return ExitCode::FAILURE;
     }
     println!("edges: {edges}");
-    if let Some((order, _)) = edges.plans.orders().find(|(_, count)| *count == 0) {
-        println!("on no edge: {order}");
+    let mut wrong = edges.plans.orders().chain(edges.pairs.readings());
+    if let Some((wrong, _)) = wrong.find(|(_, count)| *count == 0) {
+        println!("on no edge: {wrong}");
         return ExitCode::FAILURE;
     }
     let mut tally = Tally::default();
@@ -109,6 +114,10 @@ fn seen_all(tally: &Tally) -> ExitCode {
         println!("too few lines with several plans whose first was found");
         return ExitCode::FAILURE;
     }
+    if tally.pairs.both_long() < LEAST_BOTH_LONG {
+        println!("too few pairs with several words on both sides");
+        return ExitCode::FAILURE;
+    }
     if !tally.recognizer_decided_most() {
         println!("the rewriting recognizer gave up too often");
         return ExitCode::FAILURE;
@@ -135,6 +144,14 @@ fn edge_cases(who: Who, tally: &mut Tally, scratch: &mut Scratch) -> Outcome {
     }
     for edge in first::edges::all() {
         comparison.first_known(&edge)?;
+        comparison.tally.cases += 1;
+    }
+    for edge in last::edges::all() {
+        comparison.last_known(&edge)?;
+        comparison.tally.cases += 1;
+    }
+    for sheet in last::edges::sheets() {
+        comparison.last_known_sheet(&sheet)?;
         comparison.tally.cases += 1;
     }
     for edge in names::edges::all() {

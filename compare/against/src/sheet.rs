@@ -5,7 +5,8 @@
 
 pub mod compare;
 pub mod draw;
-mod due;
+pub mod due;
 pub mod edges;
 mod input;
+mod known;
 mod reads;

@@ -2,6 +2,7 @@
 
 mod names;
 mod numbers;
+mod pairs;
 pub mod plans;
 mod shared;
 
@@ -9,6 +10,7 @@ use independent::answers::SheetAnswer;
 use independent::rewriting::Found;
 use names::Names;
 use numbers::Numbers;
+use pairs::Pairs;
 use plans::Plans;
 use shared::{Questions, Shared};
 use std::fmt;
@@ -32,6 +34,7 @@ pub struct Tally {
     one_list: Questions,
     several_lists: Questions,
     pub plans: Plans,
+    pub pairs: Pairs,
     pub shared: Shared,
     pub names: Names,
 }
@@ -73,7 +76,8 @@ impl Tally {
     }
 
     /// What never occurred: refusals of any call, of sheets, and of lines that are not the first of
-    /// a sheet; and what several plans, shared spellings and dead names should have brought about.
+    /// a sheet; and what several plans, pairs, shared spellings and dead names should have brought
+    /// about.
     pub fn missing(&self) -> Vec<String> {
         let refusals = [
             ("a call", self.numbers.missing(&REFUSALS)),
@@ -92,6 +96,7 @@ impl Tally {
         let counts = shared
             .into_iter()
             .chain(self.plans.counts())
+            .chain(self.pairs.counts())
             .chain(self.names.counts());
         let never = counts.filter(|(_, count)| *count == 0);
         refusals.chain(never.map(|(what, _)| what)).collect()
@@ -130,6 +135,9 @@ impl fmt::Display for Tally {
         self.write_recognizer(f)?;
         if !self.plans.is_empty() {
             write!(f, "; {}", self.plans.list())?;
+        }
+        if !self.pairs.is_empty() {
+            write!(f, "; {}", self.pairs.list())?;
         }
         if self.shared.lines > 0 {
             self.write_shared(f)?;

@@ -1,5 +1,5 @@
-//! The order reader of document 01, with the sheets, the shared spellings, the dead names and the
-//! first plans of document 02, written a second time and in several ways:
+//! The order reader of document 01, with the sheets, the shared spellings, the dead names, the first
+//! plans and the pairs of document 02, written a second time and in several ways:
 //!
 //! - `card`, `sheet`, `line`: the refusals and the decoding that the slow ways share;
 //! - `rewriting`: a recognizer from the definition of rewriting, one list of words after the other;

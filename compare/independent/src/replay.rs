@@ -44,7 +44,10 @@ struct Element {
 pub struct Replayed {
     /// The list of words that the plan ends in. Their spellings are the line's.
     pub words: Vec<u8>,
-    /// Both words of each pair, in the order of the give steps.
+    /// Both steps of each pair, by number: the give, and the take that removes its index. In the
+    /// order of the give steps.
+    pub links: Vec<[usize; 2]>,
+    /// For each of these the last word of the give's side and the last word of the take's side.
     pub pairs: Vec<[u8; 2]>,
 }
 
@@ -67,8 +70,17 @@ pub fn replay(card: &Card, line: &[Spelled], plan: &[u8]) -> Option<Replayed> {
     if !spells_line(card, &words, line) || !stretches_agree(&form, steps) {
         return None;
     }
-    let pairs = pairs(card, &form, steps, &taken)?;
-    Some(Replayed { words, pairs })
+    let links = links(card, steps, &taken)?;
+    let pair = |&link: &[usize; 2]| {
+        let [give, take] = link.map(|step| last_of_side(card, &form, steps, step));
+        Some([give?, take?])
+    };
+    let pairs: Option<Vec<[u8; 2]>> = links.iter().map(pair).collect();
+    Some(Replayed {
+        words,
+        pairs: pairs?,
+        links,
+    })
 }
 
 fn replace_leftmost(
@@ -178,29 +190,21 @@ fn stretches_agree(form: &[Descendant], steps: &[[u8; 4]]) -> bool {
     })
 }
 
-fn pairs(
-    card: &Card,
-    form: &[Descendant],
-    steps: &[[u8; 4]],
-    taken: &[Taken],
-) -> Option<Vec<[u8; 2]>> {
+/// Each give step with the step that takes its index.
+fn links(card: &Card, steps: &[[u8; 4]], taken: &[Taken]) -> Option<Vec<[usize; 2]>> {
     let is_give = |step: &usize| {
         let production = card.productions[usize::from(steps[*step][0])];
         matches!(production, Production::Pair(pair) if matches!(pair.action, Action::Give(_)))
     };
-    (0..steps.len())
-        .filter(is_give)
-        .map(|give| {
-            let taken = taken.iter().find(|taken| taken.given_by == give)?;
-            let both = [give, taken.taken_by];
-            let [given, taken] = both.map(|step| side_start(card, form, steps, step));
-            Some([given?, taken?])
-        })
-        .collect()
+    let link = |give: usize| {
+        let taken = taken.iter().find(|taken| taken.given_by == give)?;
+        Some([give, taken.taken_by])
+    };
+    (0..steps.len()).filter(is_give).map(link).collect()
 }
 
-/// The first word of a step's side.
-fn side_start(card: &Card, form: &[Descendant], steps: &[[u8; 4]], step: usize) -> Option<u8> {
+/// The last of the words that descend from a step's side.
+fn last_of_side(card: &Card, form: &[Descendant], steps: &[[u8; 4]], step: usize) -> Option<u8> {
     let Production::Pair(pair) = card.productions[usize::from(steps[step][0])] else {
         return None;
     };
@@ -208,6 +212,9 @@ fn side_start(card: &Card, form: &[Descendant], steps: &[[u8; 4]], step: usize) 
         Place::First => Place::Second,
         Place::Second => Place::First,
     };
-    let (start, _) = stretch(form, |&element| element == Element { step, place })?;
-    Some(start as u8)
+    let side = Element { step, place };
+    let last = form
+        .iter()
+        .rposition(|word| word.ancestors.contains(&side))?;
+    Some(last as u8)
 }

@@ -80,6 +80,28 @@ pub fn tomato_with_twins() -> CardText {
     card
 }
 
+/// The tomato card with numbered rows, such as "coir 14", and with feeds that may have extras, such
+/// as "extra mild".
+pub fn tomato_with_rows() -> CardText {
+    let [r, q, m, h] = [2, 3, 4, 5];
+    let [k, l, n, e] = [6, 7, 8, 9];
+    let mut card = tomato();
+    card.nonterminals = 10;
+    card.words.extend(["14", "15", "extra"].map(String::from));
+    card.productions.extend([
+        [0, k, 0, 0, 0, 0],
+        [0, l, 1, 0, 0, 0],
+        [0, n, 5, 0, 0, 0],
+        [0, n, 6, 0, 0, 0],
+        [3, r, k, n, 0, 0],
+        [4, q, l, n, 0, 0],
+        [0, e, 7, 0, 0, 0],
+        [3, m, e, m, 0, 0],
+        [3, h, e, h, 0, 0],
+    ]);
+    card
+}
+
 /// A tomato line: materials, "takes", and the feeds of these materials in the same order.
 pub fn tomato_line(materials: &[u8]) -> Vec<u8> {
     let feeds = materials.iter().map(|material| material + 3);

@@ -183,7 +183,9 @@ pub fn dead_cards_for_plans() -> Vec<CardText> {
 /// Cards whose short sheets are all tried. The first one reads a b b with a pair; the second, on
 /// which b is no word, reads a a a with one; the third too, by two words spelled alike. The fourth
 /// is the first without the productions that b's nonterminal is on the left of, so that it is dead.
-pub fn cards_for_sheets() -> [CardText; 4] {
+/// Under the last two a pair has sides of one word or of two: the spine ends in b, a side is a or
+/// a a, and each kind of give and of take is there, in one order and in the other.
+pub fn cards_for_sheets() -> [CardText; 6] {
     let card = |nonterminals, words: &[&str], productions: &[[u8; 6]]| CardText {
         nonterminals,
         indices: 1,
@@ -194,10 +196,20 @@ pub fn cards_for_sheets() -> [CardText; 4] {
     let b_word = [0, 1, 1, 0, 0, 0];
     let [give, take] = [[5, 0, 0, 1, 1, 0], [2, 1, 1, 1, 1, 0]];
     let [give_alone, take_alone] = [[5, 0, 0, 0, 1, 0], [2, 0, 0, 0, 1, 0]];
+    let [side, longer_side, end] = [[0, 1, 0, 0, 0, 0], [3, 1, 1, 1, 0, 0], [0, 2, 1, 0, 0, 0]];
+    let sides_before = [[5, 0, 1, 2, 1, 0], [1, 2, 1, 2, 1, 0]];
+    let sides_after = [[6, 0, 2, 1, 1, 0], [2, 2, 2, 1, 1, 0]];
+    let with_sides = |gives_and_takes: [[[u8; 6]; 2]; 2]| {
+        let [one, other] = gives_and_takes;
+        let productions = [&one[..], &other, &[side, longer_side, end]].concat();
+        card(3, &["a", "b"], &productions)
+    };
     [
         card(2, &["a", "b"], &[a_word, b_word, give, take]),
         card(1, &["a"], &[a_word, give_alone, take_alone]),
         card(2, &["a", "a"], &[a_word, b_word, give, take]),
         card(2, &["a", "b"], &[a_word, give]),
+        with_sides([sides_before, sides_after]),
+        with_sides([sides_after, sides_before]),
     ]
 }

@@ -2,15 +2,12 @@
 //! and with orders that would make another plan the first, which are tried too.
 
 use super::filling::Otherwise;
+use super::known::{Known, plan};
 use super::wrong::Wrong;
-use independent::plan::Plan;
 use independent::write::{CardText, tomato, tomato_with_twins};
 
 pub struct Edge {
-    pub card: Vec<u8>,
-    pub line: Vec<u8>,
-    pub plan: Plan,
-    pub pairs: Vec<[u8; 2]>,
+    pub known: Known,
     /// Wrong orders that show on the line.
     pub shown: Vec<Wrong>,
 }
@@ -47,17 +44,6 @@ const fn word(head: u8) -> [u8; 6] {
     [0, head, 0, 0, 0, 0]
 }
 
-/// Production, i, k and j of each step.
-fn plan(text: &str) -> Plan {
-    let number = |field: &str| field.parse().expect("a number");
-    let numbers: Vec<u8> = text
-        .split([' ', ','])
-        .filter(|field| !field.is_empty())
-        .map(number)
-        .collect();
-    numbers.as_chunks::<4>().0.to_vec()
-}
-
 /// A line of as many words as its plan has.
 fn edge(productions: &[[u8; 6]], steps: &str, pairs: &[[u8; 2]], shown: &[Wrong]) -> Edge {
     let text = CardText {
@@ -67,11 +53,14 @@ fn edge(productions: &[[u8; 6]], steps: &str, pairs: &[[u8; 2]], shown: &[Wrong]
         productions: productions.to_vec(),
     };
     let plan = plan(steps);
-    Edge {
+    let known = Known {
         card: text.bytes(),
         line: text.line(&vec![0; plan.len().div_ceil(2)]),
         plan,
         pairs: pairs.to_vec(),
+    };
+    Edge {
+        known,
         shown: shown.to_vec(),
     }
 }
@@ -170,10 +159,12 @@ fn words_alike() -> Vec<Edge> {
         ],
     };
     let edge = |words: &[u8], steps: &str| Edge {
-        card: text.bytes(),
-        line: text.line(words),
-        plan: plan(steps),
-        pairs: Vec::new(),
+        known: Known {
+            card: text.bytes(),
+            line: text.line(words),
+            plan: plan(steps),
+            pairs: Vec::new(),
+        },
         shown: vec![Wrong::ByWord, LAST_STAYS],
     };
     vec![
@@ -182,7 +173,8 @@ fn words_alike() -> Vec<Edge> {
     ]
 }
 
-/// Takes and gives that apply at several splits, on which the pairs depend. D → D D | row.
+/// Takes and gives that apply at several splits. The pairs depend on these, but for a side that ends
+/// the line, which does so at every split. D → D D | row.
 fn splits_of_pairs() -> Vec<Edge> {
     let edge = |give, take, steps, pair| {
         let card = [give, take, [4, D, D, D, 0, 0], word(D), word(L)];
@@ -194,10 +186,10 @@ fn splits_of_pairs() -> Vec<Edge> {
     vec![
         // S → L T[..1].
         edge([5, S, L, T, 1, 0], take, after_a_row, [0, 1]),
-        edge([5, S, L, T, 1, 0], take_first, after_a_row, [0, 2]),
+        edge([5, S, L, T, 1, 0], take_first, after_a_row, [0, 3]),
         // S → T[..1] D.
-        edge([6, S, T, D, 1, 0], take, before_all, [2, 0]),
-        edge([6, S, T, D, 1, 0], take_first, before_all, [2, 1]),
+        edge([6, S, T, D, 1, 0], take, before_all, [3, 0]),
+        edge([6, S, T, D, 1, 0], take_first, before_all, [3, 1]),
     ]
 }
 
@@ -256,10 +248,12 @@ fn continuations() -> Vec<Edge> {
 /// The line that document 01 prints, alone and with a twin for each word.
 fn tomatoes() -> Vec<Edge> {
     let edge = |card: CardText, shown: &[Wrong]| Edge {
-        card: card.bytes(),
-        line: b"coir takes mild".to_vec(),
-        plan: plan("7 0 1 3, 0 0 1 1, 9 1 2 3, 2 1 2 2, 3 2 3 3"),
-        pairs: vec![[0, 2]],
+        known: Known {
+            card: card.bytes(),
+            line: b"coir takes mild".to_vec(),
+            plan: plan("7 0 1 3, 0 0 1 1, 9 1 2 3, 2 1 2 2, 3 2 3 3"),
+            pairs: vec![[0, 2]],
+        },
         shown: shown.to_vec(),
     };
     vec![

@@ -79,6 +79,9 @@ impl Comparison<'_> {
             if sheet.has_other_pairs() {
                 self.tally.plans.sheet(expected.number);
             }
+            if expected.number == 0 {
+                self.tally.pairs.sheet(&sheet.sides());
+            }
             let mut chart = chart.clone();
             let answer = calls.sheet(sheet.card_bytes, sheet.bytes, chart.lend(), output.lend());
             expect("sheet", answer, expected)
@@ -90,7 +93,7 @@ impl Comparison<'_> {
     }
 }
 
-fn is_written(due: &Due, expected: SheetAnswer, output: &Room) -> Verdict {
+pub fn is_written(due: &Due, expected: SheetAnswer, output: &Room) -> Verdict {
     let bytes = match expected.number {
         0 => due.records.as_flattened(),
         _ => &[],

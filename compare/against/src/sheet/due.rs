@@ -14,13 +14,18 @@ pub struct Due {
 }
 
 impl Due {
-    /// With chart room of this length.
-    pub fn of(sheet: &Sheet, chart_room: usize) -> Self {
-        let mut due = Due {
+    /// Of a sheet whose lines are all read, with these records.
+    pub fn accepted(records: Vec<[u8; 3]>) -> Self {
+        Due {
             number: 0,
             line: 0,
-            records: Vec::new(),
-        };
+            records,
+        }
+    }
+
+    /// With chart room of this length.
+    pub fn of(sheet: &Sheet, chart_room: usize) -> Self {
+        let mut due = Due::accepted(Vec::new());
         let lines = match sheet.lines() {
             Ok(lines) => lines,
             Err(number) => return Due { number, ..due },
@@ -34,8 +39,7 @@ impl Due {
                     ..due
                 };
             }
-            let records = line.pairs.iter().map(|&[give, take]| [place, give, take]);
-            due.records.extend(records);
+            due.records.extend(records(place, &line.pairs()));
         }
         due
     }
@@ -51,4 +55,9 @@ impl Due {
             number => SheetAnswer::refused(number, self.line),
         }
     }
+}
+
+/// The records of a line.
+pub fn records(line: u8, pairs: &[[u8; 2]]) -> impl Iterator<Item = [u8; 3]> {
+    pairs.iter().map(move |&[give, take]| [line, give, take])
 }

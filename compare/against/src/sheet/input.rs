@@ -2,7 +2,9 @@
 
 use crate::expected::{Input, Items, PLAN_ROOM, Scratch};
 use crate::first::Found;
+use crate::last::sides::Sides;
 use independent::card::Card;
+use independent::plan::Plan;
 use independent::sheet;
 
 pub struct Sheet<'a> {
@@ -18,9 +20,9 @@ pub struct Line<'a> {
     pub input: Input<'a>,
     /// None if the line is refused before its items matter.
     pub items: Option<Items>,
-    /// Those of its first plan, once that is known, and whether another plan is known to have
+    /// The pairs of its first plan, once that is known, and whether another plan is known to have
     /// others.
-    pub pairs: Vec<[u8; 2]>,
+    sides: Vec<Sides>,
     other_pairs: bool,
 }
 
@@ -56,6 +58,12 @@ impl<'a> Sheet<'a> {
         self.different.iter().any(several)
     }
 
+    /// The pairs of all lines, in order, where neither card nor sheet is refused.
+    pub fn sides(&self) -> Vec<Sides> {
+        let lines = self.lines().unwrap_or_default().into_iter();
+        lines.flat_map(|line| line.sides.clone()).collect()
+    }
+
     /// Whether some line has other pairs in another plan.
     pub fn has_other_pairs(&self) -> bool {
         self.different.iter().any(|line| line.other_pairs)
@@ -78,22 +86,26 @@ impl<'a> Line<'a> {
         Line {
             input,
             items,
-            pairs: Vec::new(),
+            sides: Vec::new(),
             other_pairs: false,
         }
     }
 
     /// The pairs that the replayer finds in the line's first plan, which is there by now.
     pub fn add_pairs(&mut self, found: &Found) {
-        let pairs = |plan: &[u8]| {
-            let replayed = self.input.replayed(plan).ok();
-            replayed.map_or(Vec::new(), |replayed| replayed.pairs)
-        };
         let plan = self.items.as_ref().and_then(Items::plan);
-        let due = plan.map_or(Vec::new(), pairs);
-        let mut others = found.others().into_iter();
-        self.other_pairs = others.any(|other| pairs(other.as_flattened()) != due);
-        self.pairs = due;
+        self.sides = plan.map_or(Vec::new(), |plan| self.input.sides(plan));
+        let due = self.pairs();
+        let differs = |other: &Plan| {
+            let replayed = self.input.replayed(other.as_flattened());
+            replayed.is_ok_and(|replayed| replayed.pairs != due)
+        };
+        self.other_pairs = found.others().into_iter().any(differs);
+    }
+
+    /// None before these have been added.
+    pub fn pairs(&self) -> Vec<[u8; 2]> {
+        self.sides.iter().map(|sides| sides.pair).collect()
     }
 
     /// Read's number for the line, with chart room of this length and plan room enough.

@@ -51,7 +51,7 @@ fn read_line(calls: &dyn Calls, line: &Line, lent: &mut Lent) -> Verdict {
     verify::read(calls, input, items, chart, plan)?;
     match items.plan() {
         Some(plan) if line.number(chart.length()) == 0 => {
-            let due = Ok(line.pairs.clone());
+            let due = Ok(line.pairs());
             verify::pairs(calls, input, plan, &due, pairs)
         }
         _ => Ok(()),

@@ -8,7 +8,8 @@
 use super::card::Card;
 use super::line::MOST_WORDS;
 
-/// Pairs of a plan, in the order of its give steps.
+/// Pairs of a plan, in the order of its give steps: the last word of the give's side, and the last
+/// word of the take's side.
 pub struct Pairs {
     at: [[u8; 2]; MOST_WORDS],
     count: usize,
@@ -100,11 +101,11 @@ impl<'a> Follower<'a> {
             return None;
         }
         let side_first = kind % 2 == 1;
-        let side_start = if side_first { i } else { k };
+        let last_of_side = if side_first { k - 1 } else { j - 1 };
         let dependent = match kind {
-            1 | 2 => self.take(open.stack, g, side_start)?,
+            1 | 2 => self.take(open.stack, g, last_of_side)?,
             3 | 4 => open.stack,
-            _ => self.give(open.stack, g, side_start),
+            _ => self.give(open.stack, g, last_of_side),
         };
         let (first, second) = if side_first {
             (EMPTY_STACK, dependent)
@@ -118,23 +119,23 @@ impl<'a> Follower<'a> {
 
     /// The stack under the topmost index, if that is g.
     #[inline(always)]
-    fn take(&mut self, stack: u8, g: u8, side_start: u8) -> Option<u8> {
+    fn take(&mut self, stack: u8, g: u8, last_of_side: u8) -> Option<u8> {
         let node = self.nodes.get(usize::from(stack))?;
         if node.index != g {
             return None;
         }
-        self.pairs.at[usize::from(stack)][1] = side_start;
+        self.pairs.at[usize::from(stack)][1] = last_of_side;
         Some(node.under)
     }
 
     #[inline(always)]
-    fn give(&mut self, stack: u8, g: u8, side_start: u8) -> u8 {
+    fn give(&mut self, stack: u8, g: u8, last_of_side: u8) -> u8 {
         let node = self.pairs.count;
         self.nodes[node] = Node {
             index: g,
             under: stack,
         };
-        self.pairs.at[node][0] = side_start;
+        self.pairs.at[node][0] = last_of_side;
         self.pairs.count += 1;
         node as u8
     }

@@ -17,7 +17,7 @@ const PLAN_ROOM: usize = 4 * (2 * MOST_WORDS - 1);
 /// Each pair has two sides, which no other pair has, and the end of the spine is a word more.
 const MOST_PAIRS: usize = (MOST_WORDS - 1) / 2;
 
-/// Records of the lines read so far: line, and both words of the pair.
+/// Records of the lines read so far: line, and the pair.
 struct Records {
     at: Unset<[u8; 3], { MOST_LINES * MOST_PAIRS }>,
     count: usize,
