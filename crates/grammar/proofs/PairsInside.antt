@@ -4,7 +4,7 @@ use Prim.Native.Nat.{ℕ, zero, suc, _+_, _<_}
 use native.Mathlib.Omega.{arith}
 use mathlib.Core.Path.{_≡_, _∙_}
 use mathlib.Core.List.{List, [], _∷_}
-use lib.ListN.{length}
+use lib.ListN.{length, drop}
 use Rattle.grammar.specs.Lists.{Stands, here, there}
 use Rattle.grammar.specs.Rewriting.{Rule, Spine, Action}
 use Rattle.grammar.specs.Plan.{PlanStep, productionIn, LeftmostDerivation}
@@ -15,12 +15,12 @@ use Rattle.grammar.proofs.PlanRuns.{total, Shifts, less, same, more, Ru
 use Rattle.grammar.proofs.PairsLaws.{runs-count, pairs-matched}
 use Rattle.grammar.proofs.Sides.{SideComes, InLine, inLine, comes-in-line, side-comes}
 
--- A stretch to which the side of some rule comes.
-pub data OfSide (g : List Rule) (at : ℕ → ℕ → Type 0) (n : ℕ) : Stretch → Type 0 where
-  ofSide : {R : Rule} {side : Stretch} → SideComes g at n R side → OfSide g at n side
+-- A stretch to which the side of some rule comes, by the plan from some step on.
+pub data OfSide (g : List Rule) (at : ℕ → ℕ → Type 0) (n : ℕ) (plan : List PlanStep) : Stretch → Type 0 where
+  ofSide : (m : ℕ) {R : Rule} {side : Stretch} → SideComes g at n (drop m plan) R side → OfSide g at n plan side
 
-side-in-line : {g : List Rule} {at : ℕ → ℕ → Type 0} {n : ℕ} {side : Stretch} → OfSide g at n side → InLine n side
-side-in-line (ofSide c) = comes-in-line c
+side-in-line : {g : List Rule} {at : ℕ → ℕ → Type 0} {n : ℕ} {plan : List PlanStep} {side : Stretch} → OfSide g at n plan side → InLine n side
+side-in-line (ofSide m c) = comes-in-line c
 
 in-place : {n : ℕ} {side : Stretch} → InLine n side → placeIn side < n
 in-place (inLine l k) = omega arith
@@ -77,9 +77,10 @@ module _ (P : Stretch → Type 0) where
 
 module _ {g : List Rule} {at : ℕ → ℕ → Type 0} {n m : ℕ} {given taken : Stretch} {plan : List PlanStep} (y : LeftmostDerivation g at n plan)
     (s : Stands (pairsOf g plan) m (pair given taken)) where
-  pub pairs-of-sides : OfSide g at n given × OfSide g at n taken
+  pub pairs-of-sides : OfSide g at n plan given × OfSide g at n plan taken
   pairs-of-sides =
-      pair-stands (OfSide g at n) (runs-matched-each (OfSide g at n) g (yields-runs y) (λ m st R t u. ofSide (side-comes y t u)))
+      pair-stands (OfSide g at n plan)
+      (runs-matched-each (OfSide g at n plan) g (yields-runs y) (λ m st R t u. ofSide (suc m) (side-comes y t u)))
       (rw (pairs-matched y) at s)
 
   pub pairs-in-line : InLine n given × InLine n taken
