@@ -8,7 +8,7 @@ use Rattle.grammar.specs.Pairs.{stretch, Pair, pair}
 use Rattle.layout.specs.Card.{headerLength, cardNumber}
 use Rattle.layout.specs.Answers.{pairsAnswer}
 use Rattle.layout.specs.Tomato.{coirTakesMild, planOne}
-use Rattle.layout.specs.Rows.{rowsCard, coir14TakesMild, coirTakesExtraMild, bothRowsNumbered, numberAlone, planNumbered, planExtra, planBoth}
+use Rattle.layout.specs.Rows.{rowsCard, coir14TakesMild, coirTakesExtraMild, coir14TakesExtraMild, numberAlone, planNumbered, planExtra, planBoth}
 use Rattle.layout.proofs.TableRows.{ReadRow, RefusedRow, each-pairs}
 
 -- The sides of a plan's pairs, as stretches.
@@ -26,9 +26,9 @@ record LastWords : Type 0 where
   -- "coir takes extra mild": the feed starts at word 2, and the pair names word 3
   extra : ReadRow rowsCard coirTakesExtraMild planExtra 4 8 7 (0 ∷ 3 ∷ [])
   feed : sidesIn coirTakesExtraMild planExtra ≡ pair (stretch 0 1) (stretch 2 4) ∷ []
-  -- "coir 14 wool 15 takes extra mild rich"
-  both : ReadRow rowsCard bothRowsNumbered planBoth 8 17 15 (1 ∷ 6 ∷ 3 ∷ 7 ∷ [])
-  sides : sidesIn bothRowsNumbered planBoth ≡ pair (stretch 0 2) (stretch 5 7) ∷ pair (stretch 2 4) (stretch 7 8) ∷ []
+  -- "coir 14 takes extra mild"
+  both : ReadRow rowsCard coir14TakesExtraMild planBoth 5 10 9 (1 ∷ 4 ∷ [])
+  sides : sidesIn coir14TakesExtraMild planBoth ≡ pair (stretch 0 2) (stretch 3 5) ∷ []
   -- a number is no row
   alone : RefusedRow rowsCard numberAlone planOne 25 3 4 34
 
@@ -43,7 +43,7 @@ last-words =
       row = refl;
       extra = record { answer = refl; each = each-pairs rowsCard coirTakesExtraMild refl; passes = refl; accepted = refl; written = refl };
       feed = refl;
-      both = record { answer = refl; each = each-pairs rowsCard bothRowsNumbered refl; passes = refl; accepted = refl; written = refl };
+      both = record { answer = refl; each = each-pairs rowsCard coir14TakesExtraMild refl; passes = refl; accepted = refl; written = refl };
       sides = refl;
       alone = record { answer = refl; fails = refl; unpaired = refl };
     }

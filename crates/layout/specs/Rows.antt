@@ -47,10 +47,10 @@ abbrev pub coirTakesExtraMild : List ℕ
 coirTakesExtraMild =
     99 ∷ 111 ∷ 105 ∷ 114 ∷ 32 ∷ 116 ∷ 97 ∷ 107 ∷ 101 ∷ 115 ∷ 32 ∷ 101 ∷ 120 ∷ 116 ∷ 114 ∷ 97 ∷ 32 ∷ 109 ∷ 105 ∷ 108 ∷ 100 ∷ []
 
-abbrev pub bothRowsNumbered : List ℕ
-bothRowsNumbered =
-    99 ∷ 111 ∷ 105 ∷ 114 ∷ 32 ∷ 49 ∷ 52 ∷ 32 ∷ 119 ∷ 111 ∷ 111 ∷ 108 ∷ 32 ∷ 49 ∷ 53 ∷ 32 ∷ 116 ∷ 97 ∷ 107 ∷ 101 ∷ 115 ∷ 32
-    ∷ 101 ∷ 120 ∷ 116 ∷ 114 ∷ 97 ∷ 32 ∷ 109 ∷ 105 ∷ 108 ∷ 100 ∷ 32 ∷ 114 ∷ 105 ∷ 99 ∷ 104 ∷ []
+abbrev pub coir14TakesExtraMild : List ℕ
+coir14TakesExtraMild =
+    99 ∷ 111 ∷ 105 ∷ 114 ∷ 32 ∷ 49 ∷ 52 ∷ 32 ∷ 116 ∷ 97 ∷ 107 ∷ 101 ∷ 115 ∷ 32 ∷ 101 ∷ 120 ∷ 116 ∷ 114 ∷ 97 ∷ 32 ∷ 109 ∷ 105
+    ∷ 108 ∷ 100 ∷ []
 
 abbrev pub numberAlone : List ℕ
 numberAlone = 49 ∷ 52 ∷ 32 ∷ 116 ∷ 97 ∷ 107 ∷ 101 ∷ 115 ∷ 32 ∷ 109 ∷ 105 ∷ 108 ∷ 100 ∷ []
@@ -65,6 +65,5 @@ planExtra =
 
 abbrev pub planBoth : List ℕ
 planBoth =
-    planBytes (planStep 5 0 2 8 ∷ planStep 15 0 1 2 ∷ planStep 11 0 1 1 ∷ planStep 13 1 2 2 ∷ planStep 8 2 4 8 ∷ planStep 16 2 3 4
-    ∷ planStep 12 2 3 3 ∷ planStep 14 3 4 4 ∷ planStep 10 4 7 8 ∷ planStep 9 4 5 7 ∷ planStep 2 4 5 5 ∷ planStep 18 5 6 7
-    ∷ planStep 17 5 6 6 ∷ planStep 3 6 7 7 ∷ planStep 4 7 8 8 ∷ [])
+    planBytes (planStep 7 0 2 5 ∷ planStep 15 0 1 2 ∷ planStep 11 0 1 1 ∷ planStep 13 1 2 2 ∷ planStep 9 2 3 5 ∷ planStep 2 2 3 3
+    ∷ planStep 18 3 4 5 ∷ planStep 17 3 4 4 ∷ planStep 3 4 5 5 ∷ [])

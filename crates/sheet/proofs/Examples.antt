@@ -9,7 +9,7 @@ use Rattle.grammar.specs.Plan.{PlanStep}
 use Rattle.layout.specs.Card.{headerLength}
 use Rattle.layout.specs.Steps.{stepsOf}
 use Rattle.layout.specs.Tomato.{tomatoCard, coirTakesMild, coirWoolTakesMildRich, coirWoolTakesRichMild, planOne, planTwo}
-use Rattle.layout.specs.Rows.{rowsCard, coir14TakesMild, bothRowsNumbered, planNumbered, planBoth}
+use Rattle.layout.specs.Rows.{rowsCard, coir14TakesMild, coir14TakesExtraMild, planNumbered, planBoth}
 use Rattle.split.specs.Lines.{newline}
 use Rattle.sheet.specs.Sheet.{SheetAnswer, refusedAt, sheetAnswer, sheetBytes, packSheet}
 
@@ -37,8 +37,8 @@ record Examples : Type 0 where
   written : sheetBytes (answered twoOrders 9 .records) ≡ 0 ∷ 0 ∷ 2 ∷ 1 ∷ 0 ∷ 3 ∷ 1 ∷ 1 ∷ 4 ∷ []
   accepted : answered twoOrders 9 .number ≡ 0
   short : answered twoOrders 8 ≡ refusedAt 33 0
-  -- "coir 14 takes mild", "coir 14 wool 15 takes extra mild rich": a record has the last word of each side
-  rows : sheetBytes (numbered (ended coir14TakesMild ++ bothRowsNumbered) 9 .records) ≡ 0 ∷ 1 ∷ 3 ∷ 1 ∷ 1 ∷ 6 ∷ 1 ∷ 3 ∷ 7 ∷ []
+  -- "coir 14 takes mild", "coir 14 takes extra mild": a record has the last word of each side
+  rows : sheetBytes (numbered (ended coir14TakesMild ++ coir14TakesExtraMild) 6 .records) ≡ 0 ∷ 1 ∷ 3 ∷ 1 ∷ 1 ∷ 4 ∷ []
   -- the last line with its end is the same sheet
   same : answered (ended twoOrders) 9 ≡ answered twoOrders 9
   -- an empty line in the middle; a line without a reading after one that is read, before one that would fail too; 33 comes after it
