@@ -40,10 +40,9 @@ store-pair before rest room n a b h e =
     ∙ subst (λ (m : ℕ). set (set (front ++ (x ∷ y ∷ rest)) m a) (suc m) b ≡ front ++ (a ∷ b ∷ rest)) l (set-pair front rest x y a b)
 
 -- What a give leaves: its pair in front of those written before, and a place fewer that waits.
-abbrev given : ℕ → List ℕ → List ℕ → Matching → InHand
-given place takes room from =
-    let n = 2 * (from .unwritten - 1) in
-    inHand takes (set (set room n place) (n + 1) (getD takes (from .waiting - 1) 0))
+abbrev given : ℕ → ℕ → ℕ → List ℕ → List ℕ → Matching → InHand
+given place i j takes room from =
+    inHand takes (set (set room i place) j (getD takes (from .waiting - 1) 0))
     (record { waiting = from .waiting - 1; unwritten = from .unwritten - 1 })
 
 module _ {a : Action} (side : Stretch) {place : ℕ} (p : place ≡ placeIn side) (takes room : List ℕ) (from : Matching) where
@@ -65,11 +64,13 @@ module _ {a : Action} (side : Stretch) {place : ℕ} (p : place ≡ placeIn side
   pub matched-keep : a ≡ Keep → Matched a side (inHand takes room from) (inHand takes room from)
   matched-keep e = record { matched = λ before count ts xs m. rw e m }
 
-  pub matched-give : {γ : ℕ} → a ≡ Give γ → 0 < from .waiting → 0 < from .unwritten → Matched a side (inHand takes room from) (given place takes room from)
-  matched-give e h k = record { matched = λ before count ts xs m. rw e (go before count ts xs m) }
+  -- The two bytes stand where the pair does.
+  pub matched-give : {γ : ℕ} (i j : ℕ) → a ≡ Give γ → 0 < from .waiting → 0 < from .unwritten → i ≡ 2 * (from .unwritten - 1)
+      → j ≡ 2 * (from .unwritten - 1) + 1 → Matched a side (inHand takes room from) (given place i j takes room from)
+  matched-give i j e h k x y = record { matched = λ before count ts xs m. rw e (go before count ts xs m) }
     where
       go : (before : List ℕ) (count : ℕ) (ts : List Stretch) (xs : List Pair) → Matches before count ts xs (inHand takes room from)
-          → Matches before count (tail ts) (pair side (topOf ts) ∷ xs) (given place takes room from)
+          → Matches before count (tail ts) (pair side (topOf ts) ∷ xs) (given place i j takes room from)
       go before count [] xs m = absurd (omega (arith, tops-length takes (from .waiting), ap length (m .shown)))
       go before count (t ∷ ts) xs m =
           let n = 2 * (from .unwritten - 1) in
@@ -84,7 +85,7 @@ module _ {a : Action} (side : Stretch) {place : ℕ} (p : place ≡ placeIn side
             shown = tail-eq-of-cons-eq s;
             total = omega (arith, m .total);
             within = m .within;
-            written = rw (add-one, ← p, ← head-eq-of-cons-eq s)
+            written = rw (x, y, add-one, ← p, ← head-eq-of-cons-eq s)
                 (store-pair before (pairsBytes xs ++ drop (2 * count) before) room n place (getD takes (from .waiting - 1) 0)
                 (omega (arith, m .total, m .within)) r);
           }

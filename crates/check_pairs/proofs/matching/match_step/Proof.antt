@@ -82,8 +82,8 @@ returns-3 : tie.Need-returns-3
 returns-3 c =
     let p = c .before .before .before in
     let a = p .before .before .args in
-    matched-give (stretchFrom (a .side)) (p .place-in .ensures) (a .takes .now) (a .room .now) (a .at)
-    (ap actionFrom (c .before .enum-told3 .given .1)) (giving (c .before) .0) (giving (c .before) .1)
+    matched-give (stretchFrom (a .side)) {place = _} (omega (arith, p .place-in .ensures)) (a .takes .now) (a .room .now) (a .at) _ _
+    (ap actionFrom (c .before .enum-told3 .given .1)) (giving (c .before) .0) (giving (c .before) .1) (omega arith) (omega arith)
 
 pub match-step-spec : {M : Type 1} → statement M
 match-step-spec =
