@@ -64,6 +64,7 @@ numbers-kept [] set q o = o
 numbers-kept (b ∷ l) set q o = numbers-kept l (with_number set b) q (number-kept set b q o)
 
 pub numbers-there : (l : List ℕ) (set q : ℕ) → Memᴰ q l → bit_of q (with_numbers set l) ≡ 1
+numbers-there [] set q m = elim m [ ]
 numbers-there (b ∷ l) set q (Memᴰ.head e) =
     numbers-kept l (with_number set b) q
     (omega (arith, bit_of-or q set (2 ^ b), ap (λ (k : ℕ). bit_of q (2 ^ k)) (sym e), bit_of-power q, bit_of-below q set))

@@ -1,4 +1,6 @@
 // Sets of small numbers, as the bits of one number.
+#![tactic(auto)]
+
 ghost use Rattle.std.specs.Prelude.{◌≡◌, ◌<◌};
 ghost use Rattle.bits.specs.Bits.{bit_of, holds_bit, with_number, is_part, Least, Without};
 

@@ -8,7 +8,7 @@ use Rattle.grammar.specs.Lists.{Stands, here, there}
 use Rattle.grammar.specs.Rewriting.{Rule, Symbol, word, nonterminal, sides, Replaces, lexical, spine, Step, Steps, done, next, Derivation}
 use Rattle.grammar.specs.Rewriting
 use Rattle.grammar.specs.Names.{right_names, is_left, on_left, live_rule}
-use Rattle.grammar.specs.Plan.{PlanStep, production_in, LeftmostDerivation, LeftmostStep, first, past_word, LeftmostSteps, proceed}
+use Rattle.grammar.specs.Plan.{PlanStep, production_in, LeftmostDerivation, LeftmostStep, first, past_word, LeftmostSteps, finish, proceed}
 use Rattle.grammar.proofs.ListLaws.{eqb-self, stands-in, some_of_lem, not-all-of}
 use Rattle.grammar.proofs.StandsLaws.{stands-unique}
 use Rattle.grammar.proofs.Moves.{Move, rule_by, move_of, moves, stands-rule, DerivesBy, carry}
@@ -29,11 +29,13 @@ has-after (Y ∷ r) x = past (has-after r x)
 
 words-have-none : {X : ℕ} (ws : List ℕ) → Has X (map word ws) → ⊥
 words-have-none (w ∷ ws) (past x) = words-have-none ws x
+words-have-none [] h = elim h [ ]
 
 -- The names on a rule's right are those of its right side: each that stands there is one of them, and each of them stands there.
 sides-names : {X : ℕ} (Bs : List ℕ) → Has X (sides Bs) → Memᴰ X Bs
 sides-names (B ∷ Bs) now = Memᴰ.head refl
 sides-names (B ∷ Bs) (past x) = Memᴰ.tail (sides-names Bs x)
+sides-names [] h = elim h [ ]
 
 spine-names : {X : ℕ} (before : List ℕ) (D : ℕ) (t after : List ℕ) → Has X (sides before ++ (nonterminal D t ∷ sides after))
     → Memᴰ X (before ++ (D ∷ after))
@@ -45,6 +47,7 @@ spine-names (B ∷ before) D t after (past x) = Memᴰ.tail (spine-names before 
 sides-have : {X : ℕ} (Bs : List ℕ) → Memᴰ X Bs → Has X (sides Bs)
 sides-have (B ∷ Bs) (Memᴰ.head e) = rw e now
 sides-have (B ∷ Bs) (Memᴰ.tail m) = past (sides-have Bs m)
+sides-have [] h = elim h [ ]
 
 spine-has : {X : ℕ} (before : List ℕ) (D : ℕ) (t after : List ℕ) → Memᴰ X (before ++ (D ∷ after))
     → Has X (sides before ++ (nonterminal D t ∷ sides after))
@@ -60,6 +63,7 @@ module _ {g : List Rule} where
 
   pub right-has : {p X : ℕ} {Y : Symbol} {r : List Symbol} (x : Replaces g p Y r) → Memᴰ X (right_names (rule_by x)) → Has X r
   right-has (spine {D = D} {before = before} {after = after} {t = t} s u) m = spine-has before D t after m
+  right-has (lexical _) m = elim m [ ]
 
   step-has : {X : ℕ} {f f' : List Symbol} (s : Step g f f') → Memᴰ X (right_names (move_of s).rule) → Has X f'
   step-has (Rewriting.Step.here {f = f} x) m = has-before f (right-has x m)
@@ -96,6 +100,7 @@ module _ (g : List Rule) where
   moves_live ws (next s ss) e m (Memᴰ.head same) =
       rw same (live-unless (move_of s).rule λ X i dead. never-words X dead ws ss e (step-has s i))
   moves_live ws (next s ss) e m (Memᴰ.tail i) = moves_live ws ss e m i
+  moves_live ws done e m h = elim h [ ]
 
 -- A list without what stands at a place.
 abbrev pub left_out : {A : Type 0} → ℕ → List A → List A
@@ -114,6 +119,8 @@ others-stand zero (y ∷ l) k x other here = absurd (other here)
 others-stand zero (y ∷ l) k x other (there s) = (_, s)
 others-stand (suc p) (y ∷ l) k x other here = (0, here)
 others-stand (suc p) (y ∷ l) k x other (there s) = let (q, t) = others-stand p l _ x (λ z. other (there z)) s in (suc q, there t)
+others-stand zero [] k x other h = elim h [ ]
+others-stand (suc p) [] k x other h = elim h [ ]
 
 -- Production p has a dead name on its right: then no derivation of any words has a move by its rule, no plan of any line a step by its
 -- number, and without it the words have the same derivations, move for move.
@@ -134,6 +141,7 @@ module _ (g : List Rule) (p : ℕ) (r : Rule) (s : Stands g p r) (dead : live_ru
       let (X, m, none) = not-all-of (on_left g) (right_names r) dead in
       never-words g X none ws (leftmost-is-steps g ts) e (leftmost-has (rw (← same) at t) m)
   no-leftmost ws (proceed t ts) e (Memᴰ.tail i) = no-leftmost ws ts e i
+  no-leftmost ws finish e h = elim h [ ]
 
   live-other : (x : Rule) → live_rule g x ≡ true → Stands g p x → ⊥
   live-other x live t = false≢true (sym dead ∙ (ap (live_rule g) (stands-unique s t) ∙ live))

@@ -1,14 +1,13 @@
 -- The deduction steps are sound and complete for yields: a bare item is a nonterminal with an empty stack that comes to its words;
 -- an item with foot (γ, B, p, q) turns each way for B with s over p to q into one for A with γ on s. Induction on the item; on the yield.
-use Prim.Native.Nat.{ℕ, zero, suc}
-use mathlib.Core.Path.{◌≡◌, refl}
+use Prim.Native.Nat.{ℕ, suc}
 use mathlib.Core.List.{List, [], ◌∷◌, ◌++◌}
 use Rattle.grammar.specs.Lists.{Stands}
-use Rattle.grammar.specs.Rewriting.{Rule, Lexical, Spine, Action, Take, Keep, Give, Acts, takes, keeps, gives, Symbol, word, nonterminal, sides, Replaces, lexical, spine}
+use Rattle.grammar.specs.Rewriting.{Rule, Spine, Action, Take, Keep, Give, Acts, takes, keeps, gives, Symbol, word, nonterminal, sides, Replaces, lexical, spine}
 use Rattle.grammar.specs.Items.{Foot, bare, foot, Derived, Sides}
 use Rattle.grammar.specs.Items
 use Rattle.grammar.specs.Plan.{PlanStep, plan_step, first_of, others_of, Yields, nothing, reads, replaces}
-use Rattle.grammar.proofs.YieldsLaws.{yields-join, yields-whole, yields-parts, Parted}
+use Rattle.grammar.proofs.YieldsLaws.{yields-join, yields-parts}
 
 module _ (g : List Rule) (at : ℕ → ℕ → Type 0) where
   -- The form comes to the words from i to j, by some plan.

@@ -1,6 +1,6 @@
 -- Every leftmost derivation of a line, as a list: what is seen of each of a few holds then of all. A nonterminal's stretch is tried with
 -- every end, every production and every split. No yield is left out, by induction on it, where as many steps are tried as it has.
-use Prim.Native.Nat.{ℕ, zero, suc, ◌+◌, ◌-◌, ◌≤◌, ◌<◌}
+use Prim.Native.Nat.{ℕ, zero, suc, ◌+◌, ◌-◌, ◌≤◌}
 use native.Mathlib.Omega.{arith}
 use native.Mathlib.Nat.{not-suc-le-zero}
 use mathlib.Core.Path.{◌≡◌, subst}

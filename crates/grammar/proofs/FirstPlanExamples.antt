@@ -88,6 +88,7 @@ early-one-sided p r here = is_word
 early-one-sided p r (there here) = is_last
 early-one-sided p r (there (there here)) = is_first
 early-one-sided p r (there (there (there here))) = is_first
+early-one-sided _ r (there (there (there (there h)))) = elim h [ ]
 
 early-plans : every_plan early_give (alone 3) 5 3 ≡ given_last ∷ given_first ∷ []
 early-plans = refl
@@ -113,6 +114,7 @@ takes-one-sided p r here = is_word
 takes-one-sided p r (there here) = is_first
 takes-one-sided p r (there (there here)) = is_last
 takes-one-sided p r (there (there (there here))) = is_first
+takes-one-sided _ r (there (there (there (there h)))) = elim h [ ]
 
 takes-plans : every_plan two_takes (alone 3) 5 3 ≡ taken_last ∷ taken_first ∷ []
 takes-plans = refl

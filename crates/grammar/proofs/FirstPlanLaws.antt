@@ -29,11 +29,15 @@ before-trans x y z (lower_production h) (lower_split h') = lower_production h
 before-trans x y z (lower_split h) (lower_production h') = lower_production h'
 before-trans x y z (lower_split h) (lower_split h') = lower_split (lt_trans h h')
 
+-- Of two steps in order the productions are, or they are equal and the splits are in order.
+before-parts : {p p' i i' k k' j j' : ℕ} → Before (plan_step p i k j) (plan_step p' i' k' j') → (p < p') ⊎ ((p ≡ p') × (k < k'))
+before-parts (lower_production h) = inl h
+before-parts (lower_split h) = inr (refl, h)
+
 pub before-asym : (x y : PlanStep) → Before x y → Before y x → ⊥
 before-asym x y (lower_production h) (lower_production h') = omega arith
 before-asym x y (lower_production h) (lower_split h') = omega arith
-before-asym x y (lower_split h) (lower_production h') = omega arith
-before-asym x y (lower_split h) (lower_split h') = omega arith
+before-asym x y (lower_split h) b = elim (before-parts b) [ inl h' ↦ omega arith | inr s ↦ let h' = s.1 in omega arith ]
 
 -- A line has no two first plans.
 pub first-plan-unique : {g : List Rule} {at : ℕ → ℕ → Type 0} {n : ℕ} {plan other : List PlanStep} → FirstPlan g at n plan
@@ -202,6 +206,7 @@ module _ (g : List Rule) (at : ℕ → ℕ → Type 0) {R : Rule} {p q : ℕ} (l
       | in_right r₁ d ↦ rw d (replaces x y₀ (renumbered y₁ r₁) y₂)
     ])
   ]
+  renumbered nothing r = elim r [ ]
 
   -- So no step of the first plan has the higher number.
   pub equal-productions : {n : ℕ} {plan : List PlanStep} (before : List PlanStep) (i k j : ℕ) (after : List PlanStep) → p < q

@@ -7,7 +7,7 @@ use mathlib.Core.List.Memᴰ
 use mathlib.Core.List.{List, [], ◌∷◌, Memᴰ}
 use lib.Dec.{eqb}
 use borrow.Author.Tests.{eqb-true}
-use Rattle.grammar.specs.Lists.{concat_map, only}
+use Rattle.grammar.specs.Lists.{concat_map}
 use Rattle.grammar.specs.Items.{Foot, bare, foot}
 use Rattle.grammar.specs.ItemList.{Item, item, is_bare, same_foot, same_item, among, end_of, foot_of}
 use Rattle.grammar.proofs.ListLaws.{eqb-self, in-concat_map, concat_map-in, in-only}

@@ -65,6 +65,7 @@ module _ {A : Type 0} (test : A → Bool) where
       one-fails : (l : List A) → Memᴰ x l → test x ≡ false → all_of test l ≡ false
       one-fails (y ∷ l) (Memᴰ.head same) f = rw (← same, f)
       one-fails (y ∷ l) (Memᴰ.tail m) f = rw (one-fails l m f) (and-false (test y))
+      one-fails [] h f = elim h [ ]
 
       go : (t : Bool) → test x ≡ t → t ≡ true
       go true h = refl
@@ -73,6 +74,7 @@ module _ {A : Type 0} (test : A → Bool) where
   pub some_of_lem : {x : A} (l : List A) → Memᴰ x l → test x ≡ true → some_of test l ≡ true
   some_of_lem (y ∷ l) (Memᴰ.head same) e = rw (← same, e)
   some_of_lem (y ∷ l) (Memᴰ.tail m) e = rw (some_of_lem l m e) (or-true (test y))
+  some_of_lem [] h e = elim h [ ]
 
   pub of_some : (l : List A) → some_of test l ≡ true → (x : A) × Memᴰ x l × (test x ≡ true)
   of_some [] e = absurd (false≢true e)

@@ -3,6 +3,7 @@
 use Prim.Native.Nat.{ℕ, ◌≤◌, ◌<◌}
 use native.Mathlib.Omega.{arith}
 use mathlib.Core.Path.{◌≡◌, refl, ap}
+use mathlib.Core.Logic.{◌⊎◌, inl, inr}
 use mathlib.Core.List.{List, [], ◌∷◌, ◌++◌}
 use Rattle.grammar.specs.Lists.{NotAfter, ended, sooner, agreed}
 
@@ -27,13 +28,20 @@ module _ {A : Type 0} {R : A → A → Type 0} where
   not-after-trans t (agreed u) (sooner c) = sooner c
   not-after-trans t (agreed u) (agreed v) = agreed (not-after-trans t u v)
 
+  -- Of two lists in order the first elements are, or they are equal and what follows is in order.
+  not-after-parts : {x y : A} {l m : List A} → NotAfter R (x ∷ l) (y ∷ m) → R x y ⊎ ((x ≡ y) × NotAfter R l m)
+  not-after-parts (sooner h) = inl h
+  not-after-parts (agreed s) = inr (refl, s)
+
   -- Where no two elements are before each other, lists in order both ways are equal.
   pub not-after-both : ((x y : A) → R x y → R y x → ⊥) → {l m : List A} → NotAfter R l m → NotAfter R m l → l ≡ m
   not-after-both never ended t = refl
   not-after-both never (sooner {x = x} {y = y} h) (sooner k) = absurd (never x y h k)
   not-after-both never (sooner {x = x} h) (agreed t) = absurd (never x x h h)
-  not-after-both never (agreed {x = x} s) (sooner k) = absurd (never x x k k)
-  not-after-both never (agreed {x = x} s) (agreed t) = ap (λ (l : List A). x ∷ l) (not-after-both never s t)
+  not-after-both never (agreed {x = x} s) t = elim (not-after-parts t) [
+    | inl k ↦ absurd (never x x k k)
+    | inr p ↦ ap (λ (l : List A). x ∷ l) (not-after-both never s p.1)
+  ]
 
 -- Numbers: the heads of lists in order are in order, and equal heads leave the order to the tails.
 pub not-after-heads : {x y : ℕ} {l m : List ℕ} → NotAfter ◌<◌ (x ∷ l) (y ∷ m) → x ≤ y

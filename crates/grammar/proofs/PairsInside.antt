@@ -105,6 +105,7 @@ module _ {g : List Rule} {at : ℕ → ℕ → Type 0} {n : ℕ} {plan : List Pl
       → PairSides g at n plan given taken
   pair-sides (and_pair γ η x y v) here = record { given_index = γ; taken_index = η; gives = x; takes = y }
   pair-sides (and_pair γ η x y v) (there s) = pair-sides v s
+  pair-sides nopairs h = elim h [ ]
 
   module _ {m : ℕ} {given taken : Stretch} (y : LeftmostDerivation g at n plan) (s : Stands (pairs_of g plan) m (pair given taken)) where
     pub pairs-of-sides : PairSides g at n plan given taken

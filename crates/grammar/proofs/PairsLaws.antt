@@ -181,6 +181,9 @@ runs-replays {g} (spine_step {n' = n'} {before = before} {after = after} {ns = n
     rw (stands-get_elem s)
     (replays-shift (replay g plan) (matched g plan) before after ns _ x (takes_of g plan) (total ns) stacks pairs a
     (runs-count r ∙ total-spine before n' after ns) (runs-replays r) f u)
+runs-replays (word_step s r) [] pairs f u = elim f [ ]
+runs-replays (word_step s r) ((_ ∷ _) ∷ stacks) pairs f u = elim f [ ]
+runs-replays (spine_step s a r) [] pairs f u = elim f [ ]
 
 pub pairs-matched : {g : List Rule} {at : ℕ → ℕ → Type 0} {n : ℕ} {plan : List PlanStep} → LeftmostDerivation g at n plan
     → pairs_of g plan ≡ matched g plan

@@ -57,6 +57,7 @@ module _ (g : List Rule) (at : ℕ → ℕ → Type 0) (one : OneSided g) where
       let h₂ = yields-weight y₂ in
       let e = (kept one x).weighs in
       simp length-append (omega arith)
+  yields-weight (replaces {X = word w} h y₀ y₁ y₂) = elim h [ ]
 
   pub yields-size : {f : List Symbol} {i j : ℕ} {plan : List PlanStep} → Yields g at f i j plan → i + size f ≤ j
   yields-size nothing = omega arith
@@ -67,6 +68,7 @@ module _ (g : List Rule) (at : ℕ → ℕ → Type 0) (one : OneSided g) where
       let h₂ = yields-size y₂ in
       let e = (kept one x).grows in
       omega arith
+  yields-size (replaces {X = word w} h y₀ y₁ y₂) = elim h [ ]
 
   -- A plan has two steps for each word, less one; the stack is less deep than the stretch is long; no stretch is empty.
   pub plan-length : {A i j : ℕ} {s : List ℕ} {plan : List PlanStep} → Yields g at (nonterminal A s ∷ []) i j plan

@@ -1,12 +1,12 @@
 -- Steps in any order to the words of a stretch give a yield: the last form yields by reading its words, and each step, taken
 -- backwards, puts one replacement into the yield where its nonterminal stands.
-use Prim.Native.Nat.{ℕ, zero, suc}
-use mathlib.Core.List.{List, [], ◌∷◌, ◌++◌, map}
+use Prim.Native.Nat.{ℕ}
+use mathlib.Core.List.{List, [], map}
 use Rattle.grammar.specs.Rewriting.{Rule, Symbol, word, nonterminal, Replaces, Step, Steps, done, next}
 use Rattle.grammar.specs.Rewriting
 use Rattle.grammar.specs.Input.{WordsAt, nowords, oneword}
-use Rattle.grammar.specs.Plan.{PlanStep, plan_step, Yields, nothing, reads, replaces}
-use Rattle.grammar.proofs.YieldsLaws.{yields-split, yields-parts, Parted}
+use Rattle.grammar.specs.Plan.{Yields, nothing, reads, replaces}
+use Rattle.grammar.proofs.YieldsLaws.{yields-split, yields-parts}
 use Rattle.grammar.proofs.Deduction.{Comes}
 
 module _ (g : List Rule) (at : ℕ → ℕ → Type 0) where

@@ -114,6 +114,7 @@ module _ {g : List Rule} {at : ℕ → ℕ → Type 0} where
   sided-step {n = n} {st = st} (sided {plan = plan} s c x) here s' =
       subst (λ (R : Rule). SideComes g at n plan R (side_of R st)) (stands-unique s s') c
   sided-step (sided s c x) (there t) s' = sided-step x t s'
+  sided-step nosteps h s' = elim h [ ]
 
   -- Step number m, by the steps after it.
   pub side-comes : {n m : ℕ} {st : PlanStep} {R : Rule} {plan : List PlanStep} → LeftmostDerivation g at n plan → Stands plan m st

@@ -99,6 +99,7 @@ module _ (g : List Rule) where
   agree-later : {X : Symbol} {f h h' f' : List Symbol} (a : Step g f h) (b : Step g h f') (c : Step g f h') (d : Step g h' f') → Agree a b c d
       → Agree (later {X = X} a) (later b) (later c) (later d)
   agree-later a b c d same (t then trees) (one_tree h k) = ap (λ (l : Trees). t then l) (same trees k)
+  agree-later a b c d same none h = elim h [ ]
 
   -- A step that is leftmost itself; and one after which a leftmost step comes that can be taken first.
   data IsLeftmost {f f' : List Symbol} (s : Step g f f') : Type 0 where
@@ -115,11 +116,11 @@ module _ (g : List Rule) where
 
   exchanged-past : {p w : ℕ} {f f' f'' : List Symbol} {s : Step g f f'} {t : LeftmostStep g p f' f''} → Exchanged s t
       → Exchanged (later {X = word w} s) (past_word t)
-  exchanged-past x = record {
+  exchanged-past {s = s} {t = t} x = record {
     between = _;
     sooner = past_word x.sooner;
     afterwards = later x.afterwards;
-    same = agree-later _ _ _ _ x.same;
+    same = agree-later (leftmost-is-step g x.sooner) x.afterwards s (leftmost-is-step g t) x.same;
   }
 
   exchange : {p : ℕ} {f f' f'' : List Symbol} (s : Step g f f') (t : LeftmostStep g p f' f'') → IsLeftmost s ⊎ Exchanged s t
@@ -153,9 +154,9 @@ module _ (g : List Rule) where
   step_back : {f f' h : List Symbol} {ps : List ℕ} (s : Step g f f') (l : LeftmostSteps g f' ps h) → AllWords h
       → LeftmostWith f h (trees_above s (trees_of (leftmost-is-steps g l)))
   step_back s finish k = leftmost-back (last-leftmost s k) finish
-  step_back s (proceed t l) k = elim (exchange s t) [
+  step_back {f = f} s (proceed t l) k = elim (exchange s t) [
     | inl x ↦ leftmost-back x (proceed t l)
-    | inr x ↦ let y = step_back x.afterwards l k in record {
+    | inr x ↦ let y = step_back {f = x.between} x.afterwards l k in record {
       numbers = _;
       steps = proceed x.sooner y.steps;
       same = ap (trees_above (leftmost-is-step g x.sooner)) y.same ∙ x.same _ (trees-fit (leftmost-is-steps g l));

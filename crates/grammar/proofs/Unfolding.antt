@@ -1,13 +1,13 @@
 -- A justified record's stretch is longer than those of its antecedents, for each takes at least one word; so a depth that bounds
 -- the stretch bounds the unfolding, and what is pending has, by the foot, the very name and stretch that a take left open.
-use Prim.Native.Nat.{ℕ, zero, suc, ◌-◌, ◌≤◌, ◌<◌}
+use Prim.Native.Nat.{ℕ, zero, suc, ◌≤◌, ◌<◌}
 use native.Mathlib.Nat.{le_trans}
 use native.Mathlib.Omega.{arith}
 use mathlib.Core.Path.{◌≡◌, subst}
 use mathlib.Core.List.{List, [], ◌∷◌, ◌++◌, append-nil}
 use Rattle.grammar.specs.Lists.{Stands}
-use Rattle.grammar.specs.Rewriting.{Rule, Action, Symbol, nonterminal, Replaces, spine, Acts, takes, keeps, gives}
-use Rattle.grammar.specs.Items.{Foot, foot, Derived, word_step, take_step, keep_step, give_step, Sides, no_side, next_side}
+use Rattle.grammar.specs.Rewriting.{Rule, Action, Symbol, Replaces, Acts, takes, keeps, gives}
+use Rattle.grammar.specs.Items.{Foot, Derived, word_step, take_step, keep_step, give_step, Sides, no_side, next_side}
 use Rattle.grammar.specs.ItemList.{Item, item}
 use Rattle.grammar.specs.Plan.{PlanStep, plan_step, first_of, others_of, Yields, nothing, replaces}
 use Rattle.grammar.specs.Chart.{Record, recorded, item_of, Earlier, earlier, Results, taken, kept, given}

@@ -1,7 +1,6 @@
 -- The ways down a chart are the plans: a way yields, by induction on it, and every yield is a way, since a chart lacks no derived item. So the
 -- way by recorded steps of a chart with first steps is the first plan, whatever the order in which the chart was built.
 use Prim.Native.Nat.{ℕ, suc}
-use native.Mathlib.Omega.{arith}
 use mathlib.Core.Path.{◌≡◌, refl, sym, subst}
 use mathlib.Core.List.{List, [], ◌∷◌, ◌++◌, append-nil}
 use lib.ListN.{length}
@@ -62,12 +61,12 @@ module _ {g : List Rule} {at : ℕ → ℕ → Type 0} {c : List Record} {P : �
       → Yields g at (nonterminal A s ∷ []) i j plan
   way-yields (word_way v r a) t = let e = goes-as t (located _ _ v) in
       rw (e.name, e.start, e.end) (word-yields r a e.pends)
-  way-yields (first_way v r x y o n w u q) t = let e = goes-as t (located _ _ v) in
+  way-yields {A = A} (first_way {B = B} {D = D} v r x y o n w u q) t = let e = goes-as t (located _ _ v) in
       let h = onwards o y e.pends in
-      rw (q, e.name, e.start, e.end) (step-yields g at (spine r h.acts) (way-yields w (goes-bare x)) (way-yields u h.rest))
-  way-yields (last_way v r y x o n u w q) t = let e = goes-as t (located _ _ v) in
+      rw (q, e.name, e.start, e.end) (step-yields g at (spine r h.acts) (way-yields {A = B} w (goes-bare x)) (way-yields {A = D} u h.rest))
+  way-yields {A = A} (last_way {B = B} {D = D} v r y x o n u w q) t = let e = goes-as t (located _ _ v) in
       let h = onwards o y e.pends in
-      rw (q, e.name, e.start, e.end) (step-yields g at (spine r h.acts) (way-yields u h.rest) (way-yields w (goes-bare x)))
+      rw (q, e.name, e.start, e.end) (step-yields g at (spine r h.acts) (way-yields {A = D} u h.rest) (way-yields {A = B} w (goes-bare x)))
 
 module _ (g : List Rule) (at : ℕ → ℕ → Type 0) (c : List Record) where
   -- A way, by any steps, from a record of A over i to j with what fits its foot and the stack s.

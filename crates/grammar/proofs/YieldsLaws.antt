@@ -1,9 +1,9 @@
 -- Two forms side by side yield side by side: a plan for f ++ h is a plan for f and then one for h, at some place between.
 -- Both ways by induction on f or on its yield.
-use Prim.Native.Nat.{ℕ, zero, suc}
-use mathlib.Core.Path.{◌≡◌, refl, sym, ap, ◌∙◌, subst}
+use Prim.Native.Nat.{ℕ}
+use mathlib.Core.Path.{◌≡◌, refl, sym, ap, ◌∙◌}
 use mathlib.Core.List.{List, [], ◌∷◌, ◌++◌, append_assoc}
-use Rattle.grammar.specs.Rewriting.{Rule, Symbol, word, nonterminal, Replaces}
+use Rattle.grammar.specs.Rewriting.{Rule, Symbol}
 use Rattle.grammar.specs.Plan.{PlanStep, plan_step, first_of, others_of, Yields, nothing, reads, replaces}
 
 module _ (g : List Rule) (at : ℕ → ℕ → Type 0) where

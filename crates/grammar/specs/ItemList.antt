@@ -1,7 +1,7 @@
 -- The items that the deduction steps of Items.antt derive, computed: what document 01 calls the derivable items.
 -- From a list of items every step is tried, until a round adds nothing. proofs/ shows that the list is exact and free of
 -- duplicates, and that every such list has its length.
-use Rattle.std.specs.Prelude.{ℕ, zero, suc, ◌+◌, ◌*◌, Bool, true, false, ◌&&◌, List, [], ◌∷◌, ◌++◌, map, eqb, length}
+use Rattle.std.specs.Prelude.{ℕ, zero, suc, ◌+◌, ◌*◌, Bool, true, false, ◌&&◌, List, [], ◌∷◌, map, eqb, length}
 use Rattle.grammar.specs.Lists.{concat_map, only, up_to}
 use Rattle.grammar.specs.Rewriting.{Rule, Lexical, Spine, Action, Take, Keep, Give}
 use Rattle.grammar.specs.Items.{Foot, bare, foot}

@@ -1,6 +1,6 @@
 -- Document 01, "The chart": items and the deduction steps.
 -- The line is read through a relation: `at i w` says that the word at place i is word number w.
-use Rattle.std.specs.Prelude.{ℕ, zero, suc, List, [], ◌∷◌}
+use Rattle.std.specs.Prelude.{ℕ, suc, List, [], ◌∷◌}
 use Rattle.grammar.specs.Lists.{Stands}
 use Rattle.grammar.specs.Rewriting.{Rule, Lexical, Spine, Take, Keep, Give}
 

@@ -1,6 +1,6 @@
 -- Document 01, "The card" (what a production means) and "Line and rewriting".
 -- Rules are stated with any number of sides before and after the dependent; the card's kinds are the rules with one side.
-use Rattle.std.specs.Prelude.{ℕ, zero, suc, List, [], ◌∷◌, ◌++◌, map}
+use Rattle.std.specs.Prelude.{ℕ, List, [], ◌∷◌, ◌++◌, map}
 use Rattle.grammar.specs.Lists.{Stands}
 
 -- What a rule does with the stack: the left side's top index g goes, the stack stays, or g goes on top of it.

@@ -3,14 +3,14 @@
 use Prim.Native.Nat.{ℕ, ◌+◌, ◌≤◌, ◌<◌}
 use native.Mathlib.Omega.{arith}
 use mathlib.Core.Path.{◌≡◌, refl}
-use mathlib.Core.Bool.{Bool, true}
+use mathlib.Core.Bool.{true}
 use mathlib.Core.List.{List, [], ◌∷◌, ◌++◌}
-use lib.Dec.{eqb, leb, ltb}
+use lib.Dec.{eqb, ltb}
 use lib.ListN.{length}
 use borrow.Author.Tests.{leb-true, ltb-true, eqb-true}
-use Rattle.grammar.specs.Lists.{Stands, here, there}
+use Rattle.grammar.specs.Lists.{here, there}
 use Rattle.layout.specs.Bytes.{number16_at, all_bytes}
-use Rattle.layout.specs.Refusals.{Refusal, unless, first_refusal}
+use Rattle.layout.specs.Refusals.{unless, first_refusal}
 use Rattle.layout.specs.Card.{nonterminal_count, word_count, index_count, production_count, word_table, production_table, card_length}
 use Rattle.layout.specs.Card.{header_length, most_card_bytes, entry_at, entry_length, production_at, production_length}
 use Rattle.layout.specs.Card.{max_nonterminals, max_words, max_indices, max_productions, within, card_refusals, card_number}

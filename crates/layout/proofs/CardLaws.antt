@@ -1,13 +1,13 @@
 -- Every rule that a card writes has one side, whatever its bytes: by the table of kinds. So what holds of plans under one-sided rules holds
 -- under every card. And the names of a rule are bytes: A on the left; B and C on the right, but for a word production, which has none.
-use Prim.Native.Nat.{ℕ, zero, suc, ◌+◌}
-use mathlib.Core.Path.{◌≡◌, refl, sym, subst}
+use Prim.Native.Nat.{ℕ, ◌+◌}
+use mathlib.Core.Path.{◌≡◌, refl}
 use mathlib.Core.Bool.{Bool, true, false, cond}
 use mathlib.Core.List.{List, [], ◌∷◌, map}
 use lib.Dec.{eqb}
 use Rattle.grammar.specs.Lists.{Stands, here, there}
 use Rattle.grammar.specs.Names.{left_name, right_names}
-use Rattle.grammar.specs.Rewriting.{Rule, Lexical, OneSide, is_word, is_first, is_last, OneSided}
+use Rattle.grammar.specs.Rewriting.{Rule, OneSide, is_word, is_first, is_last, OneSided}
 use Rattle.layout.specs.Bytes.{byte_at, counted}
 use Rattle.layout.specs.Card.{rule_of, production, production_at, production_count, grammar_of}
 
@@ -50,6 +50,7 @@ production-one-side card m = let at = production_at card m in
 rules-one-side : (card ms : List ℕ) (p : ℕ) (r : Rule) → Stands (map (production card) ms) p r → OneSide r
 rules-one-side card (m ∷ ms) p r here = production-one-side card m
 rules-one-side card (m ∷ ms) p r (there s) = rules-one-side card ms _ r s
+rules-one-side card [] p r h = elim h [ ]
 
 pub card-one-sided : (card : List ℕ) → OneSided (grammar_of card)
 card-one-sided card p r s = rules-one-side card (counted 0 (production_count card)) p r s

@@ -1,14 +1,12 @@
 -- Every chart of a line has as many records as there are derivable items: its items are derived, since each record is justified, they
 -- are all the derived ones, and none stands twice.
 use Prim.Native.Nat.{ℕ}
-use mathlib.Core.Path.{◌≡◌, refl, sym, ◌∙◌, ap, subst}
+use mathlib.Core.Path.{◌≡◌, sym, ◌∙◌, subst}
 use mathlib.Core.Bool.{Bool}
 use mathlib.Core.List.{List, map, Memᴰ}
 use lib.ListN.{length, length-map}
-use Rattle.grammar.specs.Lists.{Stands}
 use Rattle.grammar.specs.Rewriting.{Rule}
 use Rattle.grammar.specs.Input.{Holds, Below}
-use Rattle.grammar.specs.Items.{Foot, Derived}
 use Rattle.grammar.specs.ItemList.{Item, item, items}
 use Rattle.grammar.specs.Chart.{Record, IsChart, item_of}
 use Rattle.grammar.proofs.ListLaws.{in_map, map-in, in-stands, stands-in}

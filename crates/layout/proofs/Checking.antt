@@ -1,14 +1,14 @@
 -- Check's number is 0 exactly for the bytes of a leftmost derivation of an accepted line: bytes and steps are each other's, and the
 -- plan test decides the rest. So what Read may write passes Check, and what passes Check derives the line in 2n − 1 steps.
-use Prim.Native.Nat.{ℕ, ◌-◌}
+use Prim.Native.Nat.{ℕ}
 use mathlib.Core.Path.{◌≡◌, refl, sym, ◌∙◌, ap}
-use mathlib.Core.Bool.{true, false, false≢true}
+use mathlib.Core.Bool.{true, false≢true}
 use mathlib.Core.List.{List, [], ◌∷◌, map}
 use mathlib.Core.Option.{Option, none, some}
 use lib.ListN.{length}
 use Rattle.grammar.specs.Input.{Holds}
 use Rattle.grammar.specs.Rewriting.{word, start}
-use Rattle.grammar.specs.Plan.{PlanStep, plan_step, production_in, LeftmostSteps, passes}
+use Rattle.grammar.specs.Plan.{PlanStep, plan_step, production_in, LeftmostSteps}
 use Rattle.grammar.proofs.StandsLaws.{none-some, some_same}
 use Rattle.grammar.proofs.Leftmost.{plan-rewrites, rewriting-plans}
 use Rattle.grammar.proofs.PlanTest.{passes-sound, passes-complete}

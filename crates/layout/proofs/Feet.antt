@@ -4,12 +4,11 @@
 use Prim.Native.Nat.{ℕ, ◌+◌, ◌*◌, ◌≤◌, ◌<◌}
 use native.Mathlib.Omega.{arith}
 use mathlib.Core.Path.{◌≡◌}
-use mathlib.Core.List.{List, [], ◌∷◌}
-use lib.Dec.{eqb}
+use mathlib.Core.List.{List}
 use borrow.Author.Tests.{ne_eqb}
 use Rattle.grammar.specs.Items.{Foot, bare, foot, Derived, word_step, take_step, keep_step, give_step}
 use Rattle.grammar.specs.ItemList.{item}
-use Rattle.grammar.specs.Chart.{Record, recorded}
+use Rattle.grammar.specs.Chart.{recorded}
 use Rattle.grammar.proofs.Unfolding.{derived-longer}
 use Rattle.layout.specs.Bytes.{low_byte, high_byte}
 use Rattle.layout.specs.Card.{card_number, nonterminal_count, index_count, grammar_of}

@@ -1,6 +1,6 @@
 -- Each part of a call's answer fits 16 bits, so that `pack` loses nothing: numbers have two digits, words are at most 24, items 65535, steps 47,
 -- and a plan that passes has fewer than half as many pairs as words.
-use Prim.Native.Nat.{ℕ, ◌+◌, ◌*◌, ◌-◌, ◌≤◌}
+use Prim.Native.Nat.{ℕ, ◌+◌, ◌*◌, ◌≤◌}
 use native.Mathlib.Omega.{arith}
 use mathlib.Core.Path.{◌≡◌, refl}
 use mathlib.Core.Bool.{Bool, true, false, cond}

@@ -10,7 +10,7 @@ use lib.ListN.{length}
 use borrow.Author.Tests.{eqb-true, eq-eqb, le-ltb, ltb-false}
 use Rattle.grammar.specs.Input.{Holds, Below}
 use Rattle.grammar.specs.Items.{bare}
-use Rattle.grammar.specs.ItemList.{item, items}
+use Rattle.grammar.specs.ItemList.{item}
 use Rattle.grammar.proofs.ItemListExact.{items-sound, items-complete, among-true, among-mem}
 use Rattle.grammar.proofs.Existence.{Derivable, derivable-item, item-derivable}
 use Rattle.layout.specs.Card.{grammar_of}

@@ -1,6 +1,6 @@
 -- What a list of refusals answers: the first condition that does not hold gives its number, and 0 says that all hold.
 -- One law, `first-decides`, by going down the list; the others follow from it. No proof elsewhere takes a list of refusals apart.
-use Prim.Native.Nat.{ℕ, zero, suc, ◌≤◌, ◌<◌, max}
+use Prim.Native.Nat.{ℕ, suc, ◌≤◌, max}
 use native.Mathlib.Omega.{arith}
 use mathlib.Core.Path.{◌≡◌, refl, sym, ◌∙◌, subst}
 use mathlib.Core.Bool.{Bool, true, false, ◌&&◌, ◌||◌, false≢true}
@@ -67,6 +67,7 @@ decides-hold (refuses {number} {others}) n e s = absurd (some_number number othe
 decides-hold (passes a) n e here = refl
 decides-hold (passes {number} {others = others} a) n e (there s) =
     decides-hold a (and_parts (ltb 0 number) (numbered others) n).1 e s
+decides-hold accepts n e s = elim s [ ]
 
 pub zero-holds : (l : List Refusal) {k number : ℕ} {b : Bool} → numbered l ≡ true → first_refusal l ≡ 0 → Stands l k (unless b number)
     → b ≡ true

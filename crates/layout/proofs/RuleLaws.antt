@@ -11,7 +11,7 @@ use Rattle.grammar.specs.Lists.{Stands}
 use Rattle.grammar.specs.Rewriting.{Rule, Lexical, Spine, Action, Take, Keep, Give}
 use Rattle.layout.specs.Bytes.{byte_at}
 use Rattle.layout.specs.Card.{nonterminal_count, word_count, index_count, production_count, production_at, production, grammar_of, rule_of}
-use Rattle.layout.specs.Card.{within, pair_fits, kind_fits, production_fits, card_number}
+use Rattle.layout.specs.Card.{pair_fits, kind_fits, production_fits, card_number}
 use Rattle.layout.specs.Rules.{ActionCounted, NamesCounted, RuleCounted}
 use Rattle.layout.proofs.TestLaws.{both, limits, below_all}
 use Rattle.layout.proofs.Accepting.{accepted-card}

@@ -2,7 +2,7 @@
 -- exactly where every word is known; its spellings are the words, and where no two entries are spelled alike there is no other.
 use Prim.Native.Nat.{ℕ, zero, suc, ◌<◌, suc-le-suc}
 use native.Mathlib.Omega.{arith}
-use mathlib.Core.Path.{◌≡◌, refl, sym, ◌∙◌, ap, ap₂, subst}
+use mathlib.Core.Path.{◌≡◌, refl, sym, ◌∙◌, ap₂, subst}
 use mathlib.Core.Bool.{true, false≢true}
 use mathlib.Core.List.{List, [], ◌∷◌, map}
 use lib.Dec.{ltb}

@@ -1,5 +1,4 @@
 -- Document 01's ten rows and its room limits as one table, computed from the card's bytes and the lines' bytes.
-use Prim.Native.Nat.{ℕ}
 use mathlib.Core.Path.{◌≡◌, refl}
 use mathlib.Core.Bool.{true}
 use mathlib.Core.List.{[], ◌∷◌}

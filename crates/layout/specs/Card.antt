@@ -1,7 +1,7 @@
 -- Document 01, "The card", and the nursery's refusals 11 to 14 and 16 in "Refusals by who can cause them"; document 02, Paper 4, adds 42.
 -- (15 no longer occurs: document 02, Paper 2, lets entries be spelled alike.)
-use Rattle.std.specs.Prelude.{ℕ, zero, suc, ◌+◌, ◌*◌, Bool, true, false, cond, ◌&&◌, List, [], ◌∷◌, map, eqb, leb, ltb, length, take, drop}
-use Rattle.grammar.specs.Rewriting.{Rule, Lexical, Spine, Action, Take, Keep, Give}
+use Rattle.std.specs.Prelude.{ℕ, ◌+◌, ◌*◌, Bool, cond, ◌&&◌, List, [], ◌∷◌, map, eqb, leb, ltb, length, take, drop}
+use Rattle.grammar.specs.Rewriting.{Rule, Lexical, Spine, Take, Keep, Give}
 use Rattle.grammar.specs.Names.{no_dead_name}
 use Rattle.layout.specs.Bytes.{byte_at, number16_at, is_letter, same_bytes, all_bytes, all_below, counted}
 use Rattle.layout.specs.Refusals.{Refusal, unless, first_refusal}

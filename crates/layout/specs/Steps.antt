@@ -1,5 +1,5 @@
 -- Document 01, "The plan": a step's four bytes; "Check, pairs, name": a pair's two.
-use Rattle.std.specs.Prelude.{ℕ, ◌+◌, ◌*◌, ◌-◌, List, [], ◌∷◌}
+use Rattle.std.specs.Prelude.{ℕ, ◌*◌, ◌-◌, List, [], ◌∷◌}
 use Rattle.std.proofs.Math.Option.{Option, none, some}
 use Rattle.grammar.specs.Lists.{concat_map}
 use Rattle.grammar.specs.Plan.{PlanStep, plan_step}

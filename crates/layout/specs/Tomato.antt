@@ -1,7 +1,7 @@
 -- Document 01, "The tomato card": the card's bytes, the ten lines, and a plan for each line that has a reading.
 use Rattle.std.specs.Prelude.{ℕ, List, [], ◌∷◌, replicate}
 use Rattle.grammar.specs.Lists.{concat_map}
-use Rattle.grammar.specs.Plan.{PlanStep, plan_step}
+use Rattle.grammar.specs.Plan.{plan_step}
 use Rattle.layout.specs.Steps.{plan_bytes}
 
 -- Nonterminals S T R Q M H, words coir wool takes mild rich, indices c and w; header, word entries, productions.

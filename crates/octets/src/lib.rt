@@ -1,4 +1,6 @@
 // Bytes of a slice: read, widened, and tests of all of them. A byte is widened by one function, and 16 bits are read by one.
+#![tactic(auto)]
+
 ghost use Rattle.std.specs.Prelude.{◌≡◌, ◌<◌, ◌≤◌, ◌+◌, eqb, length};
 ghost use Rattle.layout.specs.Bytes.{byte_at, number16_at, is_letter, same_bytes, all_bytes};
 ghost use Rattle.octets.specs.Letters.{Letters};

@@ -7,13 +7,13 @@ use Rattle.bits.proofs.BitLaws.{bit-beyond, bit-decides, tests, one_shifted}
 use Rattle.bits.proofs.has.Statement.{statement}
 use Rattle.bits.proofs.has.Tie as tie
 
-returns : tie.Need-returns
+returns : tie.Need-returns-then-b-gt31
 returns c = rw (bit-beyond 32 c.before.args.b c.before.args.set (omega (arith, c.before.ranges.set)) (omega arith))
 
-shl-result : tie.Need-overflow-shl-result
+shl-result : tie.Need-overflow_shl-result
 shl-result c = search rules
 
-returns-2 : tie.Need-returns-2
+returns-2 : tie.Need-returns
 returns-2 c =
     let a = c.before.args in
     let one = one_shifted a.b 32 (omega arith) in
@@ -22,5 +22,5 @@ returns-2 c =
     (λ (none, has). rw (one, has) (omega (arith, tests, none)))
     (bit-decides a.b a.set)
 
-pub has-spec : {M : Type 1} → statement M
-has-spec = tie.close (tie.spec returns shl-result returns-2)
+pub has_spec : {M : Type 1} → statement M
+has_spec = tie.close (tie.spec returns shl-result returns-2)

@@ -4,11 +4,11 @@ use Rattle.bits.proofs.BitSets.{least-there}
 use Rattle.bits.proofs.least.Statement.{statement}
 use Rattle.bits.proofs.least.Tie as tie
 
-cast-result : tie.Need-overflow-cast-result
+cast-result : tie.Need-overflow_cast-result
 cast-result c = omega (arith, (least-there c.args.set c.ranges.set.fits c.requires).small)
 
 returns : tie.Need-returns
 returns c = least-there c.args.set c.ranges.set.fits c.requires
 
-pub least-spec : {M : Type 1} → statement M
-least-spec = tie.close (tie.spec cast-result returns)
+pub least_spec : {M : Type 1} → statement M
+least_spec = tie.close (tie.spec cast-result returns)

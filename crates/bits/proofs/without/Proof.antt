@@ -8,10 +8,10 @@ use Rattle.bits.proofs.BitSets.{bit-size, without-there}
 use Rattle.bits.proofs.without.Statement.{statement}
 use Rattle.bits.proofs.without.Tie as tie
 
-shl-result : tie.Need-overflow-shl-result
+shl-result : tie.Need-overflow_shl-result
 shl-result c = search rules
 
-sub-result : tie.Need-overflow-sub-result
+sub-result : tie.Need-overflow_sub-result
 sub-result c =
     let a = c.args in
     omega (arith, one_shifted a.k 64 c.requires.0, bit-size a.k a.set c.requires.1)
@@ -21,5 +21,5 @@ returns c =
     let a = c.args in
     without-there a.set a.k _ c.requires.1 (ap (λ (x : ℕ). a.set - x) (one_shifted a.k 64 c.requires.0))
 
-pub without-spec : {M : Type 1} → statement M
-without-spec = tie.close (tie.spec shl-result sub-result returns)
+pub without_spec : {M : Type 1} → statement M
+without_spec = tie.close (tie.spec shl-result sub-result returns)
