@@ -1,0 +1,11 @@
+use Rattle.unfold.proofs.Starting.{Passed, passed_none, passed-more, answered, found_at, found_nowhere}
+use mathlib.Core.Bool.{true, false}
+use native.Mathlib.Omega.{arith}
+use borrow.Author.Rules.{rules}
+use Rattle.unfold.proofs.find_start.Given as goal
+
+abbrev pub invariant-loop-m : goal.invariant-loop-m
+invariant-loop-m l = Passed l.chart l.count l.n l.m
+
+abbrev pub decreases-loop-m : goal.decreases-loop-m
+decreases-loop-m l = l.m

@@ -1,0 +1,17 @@
+-- The item of the start is unfolded as a side is, with nothing pending, from the room's first byte on.
+-- The laws of Whole.antt hand what is asked on, and read the side's plan as the line's.
+use mathlib.Core.Path.{refl, ◌∙◌}
+use mathlib.Core.List.{[]}
+use Rattle.card.proofs.Accepted.{view-table}
+use Rattle.unfold.proofs.Whole.{start-ready, start-asked, start-planned}
+use borrow.Author.Rules.{rules}
+use Rattle.unfold.proofs.unfold.Goals as goal
+
+pub side-requires : goal.side-requires
+side-requires c =
+    start-asked c.requires (c.production_table-table.ensures ∙ view-table c.of.ensures) refl
+
+pub returns : goal.returns
+returns c =
+    let u = c.requires in
+    λ at held. start-planned (c.side.ensures.0 at _ [] (start-ready held u.inside u.whole))
