@@ -4,8 +4,8 @@ use Prim.Native.Nat.{ℕ, zero, suc, ◌+◌, ◌<◌}
 use native.Mathlib.Omega.{arith}
 use native.Mathlib.Decide.{ℕ_discrete}
 use mathlib.Core.Path.{◌≡◌, refl, sym, ◌∙◌, ap, ap₂, subst}
-use mathlib.Core.Bool.{Bool, true, false, ◌&&◌, false≢true}
-use mathlib.Core.Logic.{◌⊎◌, inl, inr}
+use mathlib.Core.Bool.{Bool, true, false, false≢true}
+use mathlib.Core.Logic.{inl, inr}
 use mathlib.Core.List.Memᴰ
 use mathlib.Core.List.{List, [], ◌∷◌, Memᴰ}
 use borrow.Author.Count.{below_more}
@@ -16,7 +16,7 @@ use Rattle.bits.proofs.BitSets.{numbers-kept, numbers-there, numbers-from, part-
 use Rattle.grammar.specs.Rewriting.{Rule}
 use Rattle.grammar.specs.Names.{left_name, right_names, is_left, on_left, live_rule}
 use Rattle.grammar.proofs.ListLaws.{in-stands, stands-in, of-all, not-all-of, some_of_lem, of_some}
-use Rattle.layout.specs.Card.{production, production_at, production_count, grammar_of, production_fits, productions_fit, names_live}
+use Rattle.layout.specs.Card.{production, production_at, production_count, grammar_of, production_fits, names_live}
 use Rattle.layout.proofs.TestLaws.{all-below, some_below_lem}
 use Rattle.layout.proofs.CountedLaws.{table-stands, stands-below, rule-there}
 use Rattle.card.specs.declared.names.Names.{Names}

@@ -1,6 +1,8 @@
 // The card: its type, the check of its bytes, its productions and the names of its words (document 01, "The card").
 // A byte past the end of a card reads as 0, so every function here takes any bytes of any length, but for `Card::production`, which is
 // asked of an accepted card.
+#![tactic(auto)]
+
 mod entries;
 mod header;
 mod names;
@@ -18,7 +20,7 @@ use octets::{byte, wide};
 
 // Where things stand on a card: the length of its header, and its four counts. The limits and the places of the tables belong to this
 // type.
-#[derive(Drop)]
+#[derive(Clone, Copy)]
 pub struct Card {
     pub header: usize,
     pub nonterminals: usize,
@@ -118,7 +120,7 @@ impl Card {
 }
 
 // What a production does with the stack.
-#[derive(Drop)]
+#[derive(Clone, Copy)]
 pub enum Action {
     Take(u8),
     Keep,
@@ -126,7 +128,7 @@ pub enum Action {
 }
 
 // A word, or two elements, the side first or last.
-#[derive(Drop)]
+#[derive(Clone, Copy)]
 pub enum Production {
     Word {
         left: u8,

@@ -5,7 +5,7 @@ ghost use Rattle.card.specs.Names.{NamesWith};
 use bits::with;
 
 // Those on the left, and those on the right.
-#[derive(Drop)]
+#[derive(Clone, Copy)]
 pub struct Names {
     pub left: u32,
     pub right: u32,

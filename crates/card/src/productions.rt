@@ -12,7 +12,7 @@ use crate::{Action, Card, Production};
 use bits::is_part;
 
 // The six bytes of a production.
-#[derive(Drop)]
+#[derive(Clone, Copy)]
 pub struct Fields {
     pub kind: u8,
     pub a: u8,
@@ -23,7 +23,7 @@ pub struct Fields {
 }
 
 // Do all productions fit; and if so, is no name of theirs dead?
-#[derive(Drop)]
+#[derive(Clone, Copy)]
 pub struct Checked {
     pub fit: bool,
     pub live: bool,

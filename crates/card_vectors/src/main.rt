@@ -1,5 +1,7 @@
 // Prints what the card's functions answer for cards at the edges of document 01's layout, each made from the tomato card or the
 // largest one by changing bytes. The file `stdout` was computed from the text of documents 01 and 02 by other means.
+#![tactic(auto)]
+
 mod cards;
 mod names;
 mod print;

@@ -15,7 +15,7 @@ use places::MOST_WORDS;
 use records::record::OpenCell;
 
 // The line's words, the card's nonterminals, and the items that the room holds.
-#[derive(Drop)]
+#[derive(Clone, Copy)]
 pub struct Sizes {
     pub words: usize,
     pub symbols: usize,

@@ -1,4 +1,6 @@
 // The chart builder (document 01, "The chart"): the derivable items of an accepted line, each once, in a lent room.
+#![tactic(auto)]
+
 mod build;
 mod cell;
 mod sized;
@@ -9,7 +11,7 @@ ghost use Rattle.chart.specs.Built.{Buildable, BuiltRoom};
 use places::MOST_WORDS;
 
 // The number of items, or that they outnumber what the room holds.
-#[derive(Drop)]
+#[derive(Clone, Copy)]
 pub enum Built {
     Chart(usize),
     TooMany,

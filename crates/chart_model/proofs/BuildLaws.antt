@@ -144,6 +144,7 @@ pub stands-cases : {A : Type 0} {x y : A} {k : ℕ} (l : List A) → Stands (l +
 stands-cases [] here = inr (refl, refl)
 stands-cases (z ∷ l) here = inl here
 stands-cases (z ∷ l) (there s) = elim (stands-cases l s) [ inl p ↦ inl (there p) | inr e ↦ inr (ap suc e.0, e.1) ]
+stands-cases [] (there s) = elim s [ ]
 
 pub distinct-last : {A : Type 0} {x : A} {l : List A} → Distinct l → (Memᴰ x l → ⊥) → Distinct (l ++ (x ∷ []))
 distinct-last Lists.none new = more new Lists.none

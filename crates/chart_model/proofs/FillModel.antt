@@ -176,7 +176,7 @@ fold-grown : {P : ℕ → ℕ → ℕ → ℕ → Type 0} {c b : List Record} (f
 fold-grown {P} {c} f stays step zero q = subst (Grown (Below P 0) c) (some_same q) same
 fold-grown {P} {c} {b} f stays step (suc m) q =
     let (d, e, r) = fold-last f stays m c q in
-    grown-then (grown-wider (λ A i j (l, h, p). (l, omega arith, p)) (fold-grown f stays step m e))
+    grown-then (grown-wider (λ A i j (l, h, p). (l, omega arith, p)) (fold-grown {b = d} f stays step m e))
     (grown-wider (λ A i j p. (m, le_refl (suc m), p)) (step m d b r))
 
 module _ (room : ℕ) (g : List Rule) (at : ℕ → ℕ → Bool) where

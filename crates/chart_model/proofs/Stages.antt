@@ -27,7 +27,7 @@ fold-through {c = c} f stays step k (suc n) h a q go =
       | yes w ↦ go e c (subst (λ (k : ℕ). fold_up f k (some a) ≡ some e) (sym w) s) (subst (λ (k : ℕ). f k (some e) ≡ some c) (sym w) t) same
       | no w ↦
           let less : k < n = omega arith in
-          fold-through f stays step k n less a s (λ b d u v g. go b d u v
+          fold-through {c = e} f stays step k n less a s (λ b d u v g. go b d u v
           (grown-then (grown-wider (λ A i j (l, x, y, p). (l, x, omega arith, p)) g)
           (grown-wider (λ A i j p. (n, less, le_refl (suc n), p)) (step n e c t))))
     ]

@@ -1,4 +1,6 @@
 // Check and Pairs (document 01, "Check, pairs, name"): a plan is replayed, and its gives are matched with their takes.
+#![tactic(auto)]
+
 mod matching;
 
 ghost use Rattle.std.specs.Prelude.{◌≡◌};
@@ -38,7 +40,7 @@ pub fn check(card: &[u8], line: &[u8], plan: &[u8]) -> u64
 }
 
 // A refusal, or 0 with the count of the pairs.
-#[derive(Drop)]
+#[derive(Clone, Copy)]
 pub struct Paired {
     pub number: u64,
     pub count: usize,

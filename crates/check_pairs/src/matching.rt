@@ -15,7 +15,7 @@ use goals::replay::{ENTRIES, StepBytes, step_at};
 use octets::wide;
 
 // How many takes wait for their give, and how many pairs are still to be written.
-#[derive(Drop)]
+#[derive(Clone, Copy)]
 pub struct Matching {
     pub waiting: usize,
     pub unwritten: usize,
@@ -43,7 +43,7 @@ fn action_of(production: Production) -> Action
 }
 
 // A stretch of the line: the words from place `from` up to place `to`.
-#[derive(Drop)]
+#[derive(Clone, Copy)]
 pub struct Stretch {
     pub from: u8,
     pub to: u8,

@@ -1,5 +1,7 @@
 // Prints what Check and Pairs answer for stored plans, for the same plans with a byte changed, cut off and added to, and for refused
 // inputs. The file `stdout` was computed from the document's text by other means.
+#![tactic(auto)]
+
 mod vectors;
 
 use std::num::{wrapping_add_u8, wrapping_add_u64};

@@ -1,2 +1,4 @@
 // A plan replayed on goals, for Check (document 01, "Check, pairs, name").
+#![tactic(auto)]
+
 pub mod replay;

@@ -14,7 +14,7 @@ use octets::wide;
 use places::MOST_WORDS;
 
 // A step of a plan as its four bytes: the production's number, and its stretch with the split.
-#[derive(Drop)]
+#[derive(Clone, Copy)]
 pub struct StepBytes {
     pub number: u8,
     pub start: u8,
@@ -23,7 +23,7 @@ pub struct StepBytes {
 }
 
 // The goal on top: its nonterminal, how deep its stack is, the index on top of that, and its stretch.
-#[derive(Drop)]
+#[derive(Clone, Copy)]
 pub struct Top {
     pub name: u8,
     pub depth: usize,
@@ -33,7 +33,7 @@ pub struct Top {
 }
 
 // Where the replay stands: how many goals and indices there are, and the place up to which all words are reached.
-#[derive(Drop)]
+#[derive(Clone, Copy)]
 pub struct Stand {
     pub count: usize,
     pub top: usize,
@@ -41,7 +41,7 @@ pub struct Stand {
 }
 
 // The productions of a card: where their table starts, and how many there are.
-#[derive(Drop)]
+#[derive(Clone, Copy)]
 pub struct Rules {
     pub table: usize,
     pub count: usize,
@@ -50,7 +50,7 @@ pub struct Rules {
 // One entry more than a line has words, so that the next one's place is always there.
 pub const ENTRIES: usize = MOST_WORDS + 1;
 
-#[derive(Drop)]
+#[derive(Clone, Copy)]
 pub enum Turn {
     Stuck,
     To(Stand),

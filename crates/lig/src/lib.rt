@@ -1,4 +1,6 @@
 // The calls for C (document 01, "Check, pairs, name", and document 02): numbers and byte slices in, each answer packed in one u64.
+#![tactic(auto)]
+
 ghost use Rattle.std.specs.Prelude.{◌≡◌, ◌≤◌, ◌<◌};
 ghost use Rattle.layout.specs.Card.{card_number};
 ghost use Rattle.layout.specs.Answers.{check_number, name_answer, name_packed};

@@ -1,5 +1,7 @@
 // A line, accepted or refused: its bytes, its words and their numbers on the card (document 01, "Line and rewriting", document 02, Paper
 // 2, and the shift leader's refusals 22, 21, 23 and 24). It is cut into words, each is looked up, and the verdict is given at its end.
+#![tactic(auto)]
+
 mod cut;
 mod lookup;
 mod slots;
@@ -14,7 +16,7 @@ use places::MOST_WORDS;
 use slots::SLOTS;
 
 // A refusal's number, or 0 with the line's words: how many, and at each place the set of its words, none past the last.
-#[derive(Drop)]
+#[derive(Clone, Copy)]
 pub struct Accepted {
     pub number: u64,
     pub count: usize,

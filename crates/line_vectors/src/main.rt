@@ -1,6 +1,8 @@
 // Prints what `accept` answers for stored lines over the tomato card, over cards with words spelled alike, and for cards that are
 // refused: the number, the count of words and the set of the words at each of the 24 places. The file `stdout` was computed from the
 // text of documents 01 and 02 by other means.
+#![tactic(auto)]
+
 mod sets;
 
 use line::{Accepted, accept};

@@ -1,6 +1,7 @@
 -- What the program prints for a line and for lines. Free, and named so: which leftmost derivation of a line that is read.
-use Rattle.std.specs.Prelude.{ℕ, ◌+◌, ◌*◌, ◌≡◌, Bool, true, false, List, [], ◌∷◌, ◌++◌, eqb, take}
-use Rattle.io.specs.Counts.{IsPrefixLen}
+use Rattle.std.specs.Prelude.{ℕ, ◌+◌, ◌*◌, ◌≡◌, ◌≤◌, Bool, true, false, List, [], ◌∷◌, ◌++◌, eqb, length, take}
+use Rattle.std.specs.declared.option.Option.{Option}
+use Rattle.std.specs.Io.KnownBytes.{Appends as AppendsKnown}
 use Rattle.grammar.specs.Lists.{concat_map}
 use Rattle.grammar.specs.Plan.{PlanStep, plan_step}
 use Rattle.grammar.specs.Pairs.{place_in, Pair, pair, pairs_of}
@@ -54,6 +55,10 @@ pub record Answers (card line old : List ℕ) (at : ℕ) (new : List ℕ) (after
 abbrev pub text_room : ℕ → ℕ
 text_room bytes = 32 * (bytes + 1) + 8192
 
+-- A room's first n bytes: there are so many.
+abbrev pub IsPrefixLen : ℕ → List ℕ → Type 0
+IsPrefixLen n xs = (n ≤ length xs) × (n ≡ length (take n xs))
+
 -- Every line of the input was answered, in order: the buffer's first r bytes are their texts.
 pub record AnswersAll (card input new : List ℕ) (r : ℕ) : Type 0 where
   pub texts : Texts card (lines_of input) (take r new)
@@ -73,3 +78,8 @@ pub record Prints (card input text : List ℕ) (r : Printed) : Type 0 where
   pub input_taken : IsPrefixLen r.input input
   pub text_taken : IsPrefixLen r.text text
   pub text_handed : Texts (take r.card card) (lines_of (take r.input input)) (take r.text text)
+
+-- What a writer is known to have, before and after it was handed a text of which it took so many bytes.
+pub record Handed (old new : Option (List ℕ)) (text : List ℕ) (written : ℕ) : Type 0 where
+  pub within : written ≤ length text
+  pub grown : AppendsKnown old new (take written text)

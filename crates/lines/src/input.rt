@@ -1,19 +1,39 @@
 // What the program takes in: the start of the card's file, and of standard input.
-ghost use Rattle.io.specs.Counts.{IsPrefixLen};
+ghost use Rattle.std.specs.Prelude.{take};
+ghost use Rattle.std.specs.Io.KnownBytes.{Consumes};
+ghost use Rattle.lines.specs.Answer.{IsPrefixLen};
+
+use std::fs;
+use std::io::Read;
+use std::rt::Files;
 
 pub const MOST_CARD: usize = 4096;
 
 pub const MOST_INPUT: usize = 60000;
 
+// Reads until the buffer is full, the input ends or a read fails: how many bytes stand at the start of the buffer. They are the next ones of
+// the reader, in order.
+pub fn read_full<R: Read>(from: &mut R, buf: &mut [u8]) -> usize
+    ensures counts { IsPrefixLen result buf.new }
+    ensures bytes { Consumes (R.remaining from.old) (R.remaining from.new) (take result buf.new) }
+{
+    let mut done = 0;
+    while done < buf.len() {
+        match from.read(&mut buf[done..]) {
+            Ok(0) => break,
+            Ok(n) => done += n,
+            Err(_) => break,
+        }
+    }
+    done
+}
+
 // The start of the file `card.lig`; no bytes where it cannot be opened.
-pub fn load_card(card: &mut [u8]) -> usize
+pub fn load_card<F: Files>(rt: &F, card: &mut [u8]) -> usize
     ensures { IsPrefixLen result card.new }
 {
-    let file = os::open_read(b"card.lig");
-    if file < 0 {
-        return 0;
+    match fs::open(rt, "card.lig") {
+        Ok(mut file) => read_full(&mut file, card),
+        Err(_) => 0,
     }
-    let size = io::read_full(file, card);
-    libc::close(file);
-    size
 }

@@ -1,16 +1,13 @@
--- The digits of a number: 20 at most, and those that `io::decimal` writes. That function is promised by how many digits it writes, the
--- definition here goes on while the number has more than one: both take the last digit off.
-use Prim.Native.Nat.{ℕ, zero, suc, ◌+◌, ◌*◌, ◌-◌, ◌/◌, ◌%◌, ◌^◌, ◌≤◌, ◌<◌}
+-- The digits of a number: 20 at most, and what is appended digit by digit.
+use Prim.Native.Nat.{ℕ, zero, suc, ◌+◌, ◌/◌, ◌%◌, ◌^◌, ◌≤◌, ◌<◌}
 use native.Mathlib.Omega.{arith}
-use native.Mathlib.Nat.{pow-succ', mod-lt, mod-eq_of_lt, div-add-mod}
-use mathlib.Core.Path.{◌≡◌, refl, ap}
+use native.Mathlib.Nat.{pow-succ'}
+use mathlib.Core.Path.{◌≡◌, refl, sym, ◌∙◌, ap}
 use mathlib.Core.Bool.{Bool, true, false, cond}
 use mathlib.Core.List.{List, [], ◌∷◌, ◌++◌}
-use lib.Dec.{leb, ltb}
-use lib.Pow.{pow-add}
+use lib.Dec.{ltb}
 use lib.ListN.{length, set, length-append}
-use borrow.Author.Tests.{leb-true, leb-false, lt-ltb, le-ltb}
-use Rattle.io.specs.Digits.{hex_digit_ascii, last_digits, IsDigitCount}
+use borrow.Author.Tests.{ltb-false, lt-ltb, le-ltb}
 use Rattle.lines_text.specs.Text.{digits_within, decimal, field, Appends}
 use Rattle.lines_text.proofs.Appending.{appends-byte, appends-then}
 
@@ -28,9 +25,6 @@ pub field-short : (n end : ℕ) → length (field n end) ≤ 21
 unfolding decimal
 field-short n end = omega (arith, length-append (digits_within 20 n) (end ∷ []), digits-short 20 n)
 
-glyph-digit : (d : ℕ) → d < 10 → hex_digit_ascii d ≡ 48 + d
-glyph-digit d h = rw (lt-ltb d 10 h)
-
 small-digits : (k n : ℕ) → n < 10 → digits_within (suc k) n ≡ (48 + n) ∷ []
 small-digits k n h = rw (lt-ltb n 10 h)
 
@@ -47,45 +41,38 @@ field-two n end h =
     (omega (arith, length-append (digits_within 19 (n / 10)) last, ap length (small-digits 18 (n / 10) tens))) in
     omega (arith, length-append (digits_within 20 n) (end ∷ []), two)
 
-pow-some : (r : ℕ) → 1 ≤ 10 ^ r
-pow-some zero = omega arith
-pow-some (suc r) = omega (arith, pow-succ' 10 r, pow-some r)
+-- One place more says no more of a number that has a digit for each of its places.
+deeper-if : (k n : ℕ) → n < 10 ^ suc k → (b : Bool) → ltb n 10 ≡ b
+    → (10 ≤ n → digits_within (suc k) (n / 10) ≡ digits_within k (n / 10)) → digits_within (suc (suc k)) n ≡ digits_within (suc k) n
+deeper-if k n h true e up = rw e
+deeper-if k n h false e up = rw e (ap (λ (l : List ℕ). l ++ ((48 + n % 10) ∷ [])) (up (ltb-false n 10 e)))
 
-pub digits_are : (k r n : ℕ) → r ≤ k → IsDigitCount 10 1 n r → last_digits 10 r n ≡ digits_within k n
-digits_are k zero n h f = absurd (omega (arith, f.0))
-digits_are zero (suc r) n h f = absurd (omega arith)
-digits_are (suc k) (suc zero) n h f =
-    let s : n < 10 = f.1 in
-    rw (small-digits k n s, mod-eq_of_lt s, glyph-digit n s)
-digits_are (suc k) (suc (suc r)) n h f =
-    let up = pow-succ' 10 (suc r) in
-    let up' = pow-succ' 10 r in
-    let parts = div-add-mod n 10 in
-    let last : n % 10 < 10 = mod-lt n (omega arith) in
-    let z : suc (suc r) - 1 ≡ suc r = omega arith in
-    let y : suc r - 1 ≡ r = omega arith in
-    let most : 10 ^ suc r ≤ n = rw z at (f.2 (omega arith)) in
-    let fewer : IsDigitCount 10 1 (n / 10) (suc r) = (omega arith, omega (arith, f.1), λ _. rw y (omega arith)) in
-    let some : 1 ≤ 10 ^ r = pow-some r in
-    rw (large-digits k n (omega arith), glyph-digit (n % 10) last, digits_are k (suc r) (n / 10) (omega arith) fewer)
+deeper : (k n : ℕ) → n < 10 ^ suc k → digits_within (suc (suc k)) n ≡ digits_within (suc k) n
+deeper zero n h = deeper-if zero n h (ltb n 10) refl (λ m. absurd (omega arith))
+deeper (suc k) n h = deeper-if (suc k) n h (ltb n 10) refl (λ m. deeper k (n / 10) (omega (arith, h, pow-succ' 10 (suc k))))
 
-pub decimal-is : (r n : ℕ) → r ≤ 20 → IsDigitCount 10 1 n r → last_digits 10 r n ≡ decimal n
+pub decimal-one : (n : ℕ) → n < 10 → decimal n ≡ (48 + n) ∷ []
 unfolding decimal
-decimal-is r n h f = digits_are 20 r n h f
+decimal-one n h = small-digits 19 n h
 
--- A number that fits 64 bits has at most 20 digits.
-few-digits : (r n : ℕ) (b : Bool) → leb r 20 ≡ b → n < 2 ^ 64 → IsDigitCount 10 1 n r → r ≤ 20
-few-digits r n true e fits f = leb-true r 20 e
-few-digits r n false e fits f =
-    let more : 20 < r = leb-false r 20 e in
-    let z : r - 1 ≡ 20 + (r - 21) = omega arith in
-    let least : 10 ^ (20 + (r - 21)) ≤ n = rw z at (f.2 (omega arith)) in
-    absurd (omega (arith, pow-add 10 20 (r - 21), pow-some (r - 21)))
+pub decimal-more : (n : ℕ) → n < 2 ^ 64 → 10 ≤ n → decimal n ≡ decimal (n / 10) ++ ((48 + n % 10) ∷ [])
+unfolding decimal
+decimal-more n fits h =
+    large-digits 19 n h ∙ ap (λ (l : List ℕ). l ++ ((48 + n % 10) ∷ [])) (sym (deeper 18 (n / 10) (omega arith)))
 
-pub digits-fit : (r n : ℕ) → n < 2 ^ 64 → IsDigitCount 10 1 n r → r ≤ 20
-digits-fit r n fits f = few-digits r n (leb r 20) refl fits f
+pub decimal-short : (n : ℕ) → length (decimal n) ≤ 20
+unfolding decimal
+decimal-short n = digits-short 20 n
 
 -- A number's digits are appended, and then the byte after them.
-pub field-appends : {old mid text : List ℕ} {at m : ℕ} (n end : ℕ) → Appends old at text mid m → text ≡ decimal n → m < length mid
+pub field-appends : {old mid : List ℕ} {at m : ℕ} (n end : ℕ) → Appends old at (decimal n) mid m → m < length mid
     → Appends old at (field n end) (set mid m end) (m + 1)
-field-appends {old} {mid} {text} {at} {m} n end x e h = appends-then (rw e at x) (appends-byte mid m end h)
+field-appends {old} {mid} {at} {m} n end x h = appends-then x (appends-byte mid m end h)
+
+-- One digit is the whole of a number below ten; any other number's last digit comes after the rest.
+pub digit-appends : {old : List ℕ} {at : ℕ} (n : ℕ) → n < 10 → at < length old → Appends old at (decimal n) (set old at (48 + n)) (at + 1)
+digit-appends {old} {at} n h r = rw (decimal-one n h) (appends-byte old at (48 + n) r)
+
+pub digits-append : {old mid : List ℕ} {at m : ℕ} (n : ℕ) → n < 2 ^ 64 → 10 ≤ n → Appends old at (decimal (n / 10)) mid m → m < length mid
+    → Appends old at (decimal n) (set mid m (48 + n % 10)) (m + 1)
+digits-append {old} {mid} {at} {m} n fits h x r = rw (decimal-more n fits h) (appends-then x (appends-byte mid m (48 + n % 10) r))

@@ -1,7 +1,6 @@
 -- Worked examples of the definitions, computed: lines of document 01's printed example, and digits.
-use Prim.Native.Nat.{ℕ}
 use mathlib.Core.Path.{◌≡◌, refl}
-use mathlib.Core.List.{List, [], ◌∷◌, ◌++◌}
+use mathlib.Core.List.{[], ◌∷◌}
 use Rattle.lines_text.specs.Text.{decimal, read_line, refused_line, step_line, pair_line}
 
 -- "read 3 5", "7 0 1 3", "pair 0 2" and "refused 25".

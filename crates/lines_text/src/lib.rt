@@ -1,2 +1,4 @@
 // The texts that the program `lines` prints.
+#![tactic(auto)]
+
 pub mod text;

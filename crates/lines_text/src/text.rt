@@ -1,7 +1,7 @@
 // The text of an answer, appended to a buffer: `at` is how many bytes of the buffer are in use, and each function answers how many
 // are afterwards. A field takes at most 21 bytes: 20 digits, and the byte after them.
 ghost use Rattle.std.specs.Prelude.{◌+◌, ◌*◌, ◌≤◌, length};
-ghost use Rattle.lines_text.specs.Text.{Appends, field, step_line, step_lines, pair_line, pair_lines, read_line, refused_line};
+ghost use Rattle.lines_text.specs.Text.{Appends, decimal, field, step_line, step_lines, pair_line, pair_lines, read_line, refused_line};
 
 // Bytes as they are.
 pub fn put(out: &mut [u8], at: usize, text: &[u8]) -> usize
@@ -16,14 +16,26 @@ pub fn put(out: &mut [u8], at: usize, text: &[u8]) -> usize
     at + i
 }
 
+// A number's digits, the most significant first.
+fn put_digits(out: &mut [u8], at: usize, n: u64) -> usize
+    requires { at + length (decimal n) ≤ length out.old }
+    ensures { Appends out.old at (decimal n) out.new result }
+{
+    if n < 10 {
+        out[at] = b'0' + n as u8;
+        return at + 1;
+    }
+    let after = put_digits(out, at, n / 10);
+    out[after] = b'0' + (n % 10) as u8;
+    after + 1
+}
+
 // A number and the byte that ends its field.
 fn put_field(out: &mut [u8], at: usize, n: u64, end: u8) -> usize
     requires { at + 21 ≤ length out.old }
     ensures { Appends out.old at (field n end) out.new result }
 {
-    let mut digits = [0u8; 20];
-    let k = io::decimal(n, &mut digits);
-    let after = put(out, at, &digits[..k]);
+    let after = put_digits(out, at, n);
     out[after] = end;
     after + 1
 }

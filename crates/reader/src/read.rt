@@ -8,7 +8,7 @@ use chart::Built;
 use unfold::Start;
 
 // A number (0 is read), words, items and steps.
-#[derive(Drop)]
+#[derive(Clone, Copy)]
 pub struct Answer {
     pub number: u64,
     pub words: usize,

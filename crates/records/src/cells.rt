@@ -7,7 +7,7 @@ ghost use Rattle.records.specs.Cells.{spans, span_at, cell_at, range_in, with_ra
 
 use octets::wide16;
 
-#[derive(Drop)]
+#[derive(Clone, Copy)]
 pub struct Range {
     pub from: usize,
     pub to: usize,

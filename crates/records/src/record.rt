@@ -5,7 +5,7 @@ ghost use Rattle.records.specs.Room.{foot_fields, record_from, Writable, with_nu
 
 // The cell that is being filled: A over i to j; its number among the cells; and what bounds it: the line's words, the card's nonterminals,
 // the items that the room holds, and the count of records at which the cell was begun.
-#[derive(Drop)]
+#[derive(Clone, Copy)]
 pub struct OpenCell {
     pub words: usize,
     pub symbols: usize,
@@ -18,7 +18,7 @@ pub struct OpenCell {
 }
 
 // γ, B, p and q of an item; index 0 where there is no foot.
-#[derive(Drop)]
+#[derive(Clone, Copy)]
 pub struct Foot {
     pub index: u8,
     pub symbol: u8,
@@ -27,7 +27,7 @@ pub struct Foot {
 }
 
 // How an item was derived: its production and the positions of its antecedents, 65535 for none.
-#[derive(Drop)]
+#[derive(Clone, Copy)]
 pub struct Origin {
     pub production: u8,
     pub side: u16,

@@ -1,5 +1,7 @@
 // The table of sets of productions, each 64 bits: those of a nonterminal or a word, by the card alone; those that have both elements at a
 // split of the span in hand; and for each span those that it can serve.
+#![tactic(auto)]
+
 pub mod like;
 
 ghost use Rattle.std.specs.Prelude.{◌≡◌, ℕ, ◌≤◌, ◌<◌, length, get_or, replicate};

@@ -1,4 +1,6 @@
 // A whole sheet (document 02, Paper 1): every line is read, and only where all are read are the records of their pairs written.
+#![tactic(auto)]
+
 mod records;
 
 ghost use Rattle.std.specs.Prelude.{◌≡◌, ◌*◌, ◌+◌, ◌≤◌, length};
@@ -18,7 +20,7 @@ const MOST_LINES: usize = 64;
 const PLAN_ROOM: usize = 4 * 47;
 
 // A number (0 is accepted), the line that it is about, and how many records were written.
-#[derive(Drop)]
+#[derive(Clone, Copy)]
 pub struct Answer {
     pub number: u64,
     pub line: u8,
@@ -26,14 +28,14 @@ pub struct Answer {
 }
 
 // What one line comes to: a refusal, or 0 and how many records there are with its own.
-#[derive(Drop)]
+#[derive(Clone, Copy)]
 pub struct Added {
     pub number: u64,
     pub count: usize,
 }
 
 // What the lines come to: all of them read, with so many records, or the first that is not and its number.
-#[derive(Drop)]
+#[derive(Clone, Copy)]
 pub enum Ending {
     Read(usize),
     Failed { line: u8, number: u64 },

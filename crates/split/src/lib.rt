@@ -1,4 +1,6 @@
 // The lines of an input, each ended by hex 0A, the last one with or without it.
+#![tactic(auto)]
+
 ghost use Rattle.std.specs.Prelude.{◌≡◌, ◌<◌, leb, length};
 ghost use Rattle.split.specs.Lines.{lines_of, LineEnds};
 

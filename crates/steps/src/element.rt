@@ -6,7 +6,7 @@ use octets::wide;
 use records::record::OpenCell;
 
 // A nonterminal over a stretch: a side or a dependent. Whole numbers, by which the table of cells is asked.
-#[derive(Drop)]
+#[derive(Clone, Copy)]
 pub struct Element {
     pub symbol: usize,
     pub from: usize,
@@ -14,7 +14,7 @@ pub struct Element {
 }
 
 // Those of a production, and its action.
-#[derive(Drop)]
+#[derive(Clone, Copy)]
 pub struct Elements {
     pub side: Element,
     pub action: Action,
@@ -22,7 +22,7 @@ pub struct Elements {
 }
 
 // The production of a step, and the position of its side.
-#[derive(Drop)]
+#[derive(Clone, Copy)]
 pub struct Side {
     pub production: u8,
     pub position: u16,

@@ -1,5 +1,7 @@
 // A plan read off a chart (document 01, "The plan"): a side is unfolded with nothing pending, a spine with its pending continuations,
 // and each unfolding leads to the other, over shorter and shorter stretches.
+#![tactic(auto)]
+
 ghost use Rattle.std.specs.Prelude.{◌+◌, ◌*◌, ◌≤◌, [], length};
 ghost use Rattle.layout.specs.Steps.{step_bytes};
 ghost use Rattle.unfold.specs.Unfold.{Unfoldable, Plans, Found};
@@ -10,14 +12,14 @@ ghost use Rattle.unfold.specs.Spine.{Asked, Opened, StepWritten, Unfolds, Unfold
 use card::{Action, Card, Production};
 use octets::{read16, wide, wide16};
 
-#[derive(Drop)]
+#[derive(Clone, Copy)]
 pub enum Start {
     At(usize),
     Missing,
 }
 
 // What a record says of its step: the production, the stretch and the positions of the antecedents.
-#[derive(Drop)]
+#[derive(Clone, Copy)]
 pub struct Node {
     pub production: u8,
     pub from: u8,
@@ -45,7 +47,7 @@ fn node_at(chart: &[u8], m: usize) -> Node
 
 // A spine to unfold: the position of its record, and where the positions of its pending continuations stand, stack[base..depth],
 // the last one first to come.
-#[derive(Drop)]
+#[derive(Clone, Copy)]
 pub struct Rest {
     pub position: usize,
     pub base: usize,
@@ -101,7 +103,7 @@ fn put_step(plan: &mut [u8], at: usize, node: Node, k: u8) -> usize
 
 // What is left of a record when its step is written, with where the plan goes on: of a word nothing, and else the position of its
 // side and the rest of its spine, whichever comes first.
-#[derive(Drop)]
+#[derive(Clone, Copy)]
 pub enum Left {
     Nothing {
         next: usize,

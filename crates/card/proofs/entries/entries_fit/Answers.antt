@@ -1,0 +1,25 @@
+-- `entries::entries_fit`: every entry passed by the loop fits.
+-- So at the end all below the count do, and a return on the way shows one that does not.
+use native.Mathlib.Omega.{arith}
+use borrow.Author.Count.{below_none, below_more}
+use borrow.Author.Rules.{rules}
+use Rattle.layout.specs.Card.{word_count, entry_fits}
+use Rattle.layout.proofs.TestLaws.{refused, passed, all-below, some_below_lem}
+use Rattle.card.proofs.entries.entries_fit.Goals as goal
+
+pub loop-v-init : goal.loop-v-init
+loop-v-init c = (search rules, below_none _)
+
+pub returns-then-not-entry_fits : goal.returns-then-not-entry_fits
+returns-then-not-entry_fits c =
+    let card = c.args.card.now in
+    some_below_lem (word_count card) (entry_fits card) c.loop-v.v (omega arith)
+    (refused c.entry_fits.ensures c.if-not-entry_fits.true-raw)
+
+pub loop-v-preserved : goal.loop-v-preserved
+loop-v-preserved c = (search rules, below_more _ _ c.loop-v.invariant.1 (passed c.entry_fits.ensures c.if-not-entry_fits.false-raw))
+
+pub returns : goal.returns
+returns c =
+    let card = c.args.card.now in
+    all-below (word_count card) (entry_fits card) λ k lt. c.loop-v.invariant.1 k (omega arith)

@@ -1,0 +1,6 @@
+use Rattle.std.proofs.Common.{arith}
+use Rattle.lines_text.proofs.Decimal.{field-short}
+use Rattle.lines_text.proofs.text.put_read.Goals as goal
+
+pub put_field-requires : goal.put_field-requires
+put_field-requires c = omega (arith, field-short c.args.words 32)
