@@ -6,7 +6,6 @@ use mathlib.Core.Path.{◌≡◌, ap₂}
 use lib.Bits.{bit_and}
 use lib.ListN.{length, get_or, set}
 use Rattle.sets.specs.Places.{bounds, splits_at, spans_at, first_at, second_at}
-use Rattle.sets.specs.Spans.{both_at}
 use Rattle.sets.proofs.RowLaws.{rows_at}
 use Rattle.sets.proofs.MeetLaws.{Begun, splits-are, split-inside, begun, met-none, met-more, met-end}
 use Rattle.sets.proofs.meet.Goals.{Start, After-least-k}
@@ -58,7 +57,7 @@ loop-rest-preserved c =
     let meeting-there : spans_at ≤ length c.loop-rest.sets = omega (arith, same, only, c.requires.3.long) in
     let first : spans_at + 2 * c.span_at.result ≡ first_at c.args.i c.least-k.result = omega (arith, c.span_at.ensures.0) in
     let second : spans_at + 2 * c.span_at-in-loop-rest.result + 1 ≡ second_at c.least-k.result c.args.j =
-        omega (arith, c.span_at-in-loop-rest.ensures.0) in
+    omega (arith, c.span_at-in-loop-rest.ensures.0) in
     met-more c.loop-rest.invariant c.without-rest.ensures small meeting-there
     (ap₂ (λ (x y : ℕ). bit_and (get_or c.loop-rest.sets x 0) (get_or c.loop-rest.sets y 0)) first second)
 
