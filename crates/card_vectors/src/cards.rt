@@ -80,14 +80,12 @@ fn largest_byte(i: usize) -> u8 {
 
 fn made(big: bool) -> [u8; 1024] {
     let mut card = [0u8; 1024];
-    let mut i = 0;
-    while i < 780 {
+    for i in 0..780 {
         if big {
             card[i] = largest_byte(i);
         } else {
             card[i] = tomato_byte(i);
         }
-        i += 1;
     }
     card
 }
@@ -105,10 +103,8 @@ pub fn largest() -> [u8; 1024] {
 // The largest card with every word spelled as the first.
 pub fn alike() -> [u8; 1024] {
     let mut card = largest();
-    let mut i = 0;
-    while i < 372 {
+    for i in 0..372 {
         card[24 + i] = entry_byte(0, i % 12);
-        i += 1;
     }
     card
 }

@@ -1,34 +1,29 @@
 // Words and numbers on standard output.
-use libc::STDOUT_FILENO;
+use std::io;
+use std::io::Write;
 
-pub fn text(s: &[u8]) {
-    io::write_all(STDOUT_FILENO, s);
+pub fn text(rt: &impl Print, s: &[u8]) -> io::Result<()> {
+    io::writer(rt).write_all(s)
 }
 
-pub fn number(n: u64) {
-    io::print_decimal(STDOUT_FILENO, n);
+pub fn number(rt: &impl Print, n: u64) -> io::Result<()> {
+    print!(rt; "{n}")
 }
 
-pub fn end_line() {
-    text(b"\n");
+pub fn end_line(rt: &impl Print) -> io::Result<()> {
+    println!(rt;)
 }
 
 // A space and a number.
-pub fn field(n: u64) {
-    text(b" ");
-    number(n);
+pub fn field(rt: &impl Print, n: u64) -> io::Result<()> {
+    print!(rt; " {n}")
 }
 
 // The same, at the end of a line.
-pub fn last(n: u64) {
-    field(n);
-    end_line();
+pub fn last(rt: &impl Print, n: u64) -> io::Result<()> {
+    println!(rt; " {n}")
 }
 
-pub fn run(first: u64, last: u64, same: u64) {
-    field(first);
-    text(b"-");
-    number(last);
-    text(b":");
-    number(same);
+pub fn run(rt: &impl Print, first: u64, last: u64, same: u64) -> io::Result<()> {
+    print!(rt; " {first}-{last}:{same}")
 }

@@ -2,27 +2,29 @@
 use crate::cards::{tomato, with};
 use crate::print;
 use card::{Action, Card, Production};
+use std::io;
 
-fn act(action: Action) {
+fn act(rt: &impl Print, action: Action) -> io::Result<()> {
     match action {
         Action::Take(g) => {
-            print::text(b" take");
-            print::field(g as u64);
+            print::text(rt, b" take")?;
+            print::field(rt, g as u64)?;
         }
-        Action::Keep => print::text(b" keep"),
+        Action::Keep => print::text(rt, b" keep")?,
         Action::Give(g) => {
-            print::text(b" give");
-            print::field(g as u64);
+            print::text(rt, b" give")?;
+            print::field(rt, g as u64)?;
         }
     }
+    Ok(())
 }
 
-fn show(production: Production) {
+fn show(rt: &impl Print, production: Production) -> io::Result<()> {
     match production {
         Production::Word { left, word } => {
-            print::text(b" word");
-            print::field(left as u64);
-            print::field(word as u64);
+            print::text(rt, b" word")?;
+            print::field(rt, left as u64)?;
+            print::field(rt, word as u64)?;
         }
         Production::SideFirst {
             left,
@@ -30,11 +32,11 @@ fn show(production: Production) {
             side,
             dependent,
         } => {
-            print::text(b" side first");
-            print::field(left as u64);
-            act(action);
-            print::field(side as u64);
-            print::field(dependent as u64);
+            print::text(rt, b" side first")?;
+            print::field(rt, left as u64)?;
+            act(rt, action)?;
+            print::field(rt, side as u64)?;
+            print::field(rt, dependent as u64)?;
         }
         Production::SideLast {
             left,
@@ -42,59 +44,58 @@ fn show(production: Production) {
             dependent,
             side,
         } => {
-            print::text(b" side last");
-            print::field(left as u64);
-            act(action);
-            print::field(dependent as u64);
-            print::field(side as u64);
+            print::text(rt, b" side last")?;
+            print::field(rt, left as u64)?;
+            act(rt, action)?;
+            print::field(rt, dependent as u64)?;
+            print::field(rt, side as u64)?;
         }
     }
+    Ok(())
 }
 
 // Production m, if the card is accepted and has so many.
-fn decoded(card: &[u8], m: usize) {
+fn decoded(rt: &impl Print, card: &[u8], m: usize) -> io::Result<()> {
     let number = card::card_number(card);
     if number != 0 {
-        print::text(b" refused");
-        print::field(number);
-        return;
+        print::text(rt, b" refused")?;
+        print::field(rt, number)?;
+        return Ok(());
     }
     let view = Card::of(card);
     if view.productions <= m {
-        print::text(b" none");
-        return;
+        print::text(rt, b" none")?;
+        return Ok(());
     }
-    show(Card::production(card, view.production_table(), m));
+    show(rt, Card::production(card, view.production_table(), m))
 }
 
-fn production(card: [u8; 1024], length: usize, m: u8) {
+fn production(rt: &impl Print, card: [u8; 1024], length: usize, m: u8) -> io::Result<()> {
     if 1024 < length {
-        return;
+        return Ok(());
     }
-    print::number(m as u64);
-    decoded(&card[..length], m as usize);
-    print::end_line();
+    print::number(rt, m as u64)?;
+    decoded(rt, &card[..length], m as usize)?;
+    print::end_line(rt)
 }
 
 // Production 10 of the tomato card with another kind and index.
-fn kind(kind: u8, index: u8) {
-    production(with(with(tomato(), 132, kind), 136, index), 138, 10);
+fn kind(rt: &impl Print, kind: u8, index: u8) -> io::Result<()> {
+    production(rt, with(with(tomato(), 132, kind), 136, index), 138, 10)
 }
 
-pub fn all() {
-    print::text(b"productions\n");
-    let mut m: u8 = 0;
-    while m < 13 {
-        production(tomato(), 138, m);
-        kind(m, 2);
-        kind(m, 0);
-        m += 1;
+pub fn all(rt: &impl Print) -> io::Result<()> {
+    print::text(rt, b"productions\n")?;
+    for m in 0..13u8 {
+        production(rt, tomato(), 138, m)?;
+        kind(rt, m, 2)?;
+        kind(rt, m, 0)?;
     }
-    kind(255, 2);
-    production(tomato(), 138, 255);
-    production(tomato(), 135, 10);
-    production(tomato(), 5, 0);
-    production(tomato(), 0, 0);
-    production(with(tomato(), 5, 255), 138, 255);
-    production(with(tomato(), 91, 5), 138, 3);
+    kind(rt, 255, 2)?;
+    production(rt, tomato(), 138, 255)?;
+    production(rt, tomato(), 135, 10)?;
+    production(rt, tomato(), 5, 0)?;
+    production(rt, tomato(), 0, 0)?;
+    production(rt, with(tomato(), 5, 255), 138, 255)?;
+    production(rt, with(tomato(), 91, 5), 138, 3)
 }

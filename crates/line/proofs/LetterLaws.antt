@@ -1,14 +1,13 @@
 -- Letters: bytes above the space, so each fits a line; and where a run of them ends.
-use Prim.Native.Nat.{ℕ, suc, ◌+◌, ◌-◌, ◌≤◌, ◌<◌}
+use Prim.Native.Nat.{ℕ, ◌≤◌}
 use native.Mathlib.Omega.{arith}
-use mathlib.Core.Path.{◌≡◌, refl, sym, ◌∙◌}
+use mathlib.Core.Path.{◌≡◌, refl}
 use mathlib.Core.Bool.{Bool, true, false, ◌&&◌, ◌||◌, false≢true}
-use mathlib.Core.List.{List, [], ◌∷◌, ◌++◌}
+use mathlib.Core.List.{List}
 use lib.Dec.{leb}
-use lib.ListN.{length, drop, length-take, length-drop, take-append-drop}
-use lib.Seq.{take-suc, take-add, drop-drop, get_or-drop}
-use borrow.Author.Tests.{leb-true, le-leb, ne_eqb}
-use Rattle.layout.specs.Bytes.{byte_at, is_letter, all_bytes}
+use lib.ListN.{length}
+use borrow.Author.Tests.{leb-true, ne_eqb}
+use Rattle.layout.specs.Bytes.{byte_at, is_letter}
 use Rattle.layout.specs.Line.{space, is_line_byte}
 use Rattle.octets.specs.Letters.{Letters}
 use Rattle.line.specs.Words.{PastLetters}

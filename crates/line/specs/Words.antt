@@ -1,5 +1,5 @@
 -- Document 01, "Line and rewriting": where a line's next word starts, said by the rest of the line, and where its letters end.
-use Rattle.std.specs.Prelude.{ℕ, ◌-◌, ◌≤◌, ◌<◌, ◌≡◌, true, false, List, length, take, drop}
+use Rattle.std.specs.Prelude.{ℕ, ◌≤◌, ◌<◌, ◌≡◌, false, List, length, drop}
 use Rattle.layout.specs.Bytes.{byte_at, is_letter, all_bytes}
 use Rattle.layout.specs.Line.{space, is_line_byte, words_of}
 use Rattle.octets.specs.Letters.{Letters}

@@ -1,3 +1,4 @@
+pub mod ByteLoops
 pub mod AnswerLaws
 pub mod TextLength
 pub mod LinesLaws

@@ -1,23 +1,19 @@
 -- At the loop, every byte before `at` fits and the words before it are counted and looked up. A byte that does not fit decides 22; what
 -- was noted of a word joins from an empty set, from a set, or from no room left; and the end of the line leaves the verdict to the words.
-use Prim.Native.Nat.{ℕ, ◌+◌, ◌-◌, ◌≤◌, zero-le}
+use Prim.Native.Nat.{ℕ, ◌+◌, ◌≤◌, zero-le}
 use native.Mathlib.Omega.{arith}
-use mathlib.Core.Logic.{⊎_elim}
 use mathlib.Core.Path.{◌≡◌, refl, sym, ◌∙◌, subst₂}
 use mathlib.Core.Bool.{Bool}
 use mathlib.Core.List.{List}
-use borrow.Author.Rules.{rules}
-use lib.ListN.{length}
-use Rattle.layout.specs.Card.{card_number, word_count}
-use Rattle.card.specs.View.{ViewOf}
+use Rattle.layout.specs.Card.{card_number}
 use Rattle.octets.specs.Letters.{part}
-use Rattle.line.specs.Slots.{Ranged}
 use Rattle.octets.proofs.LetterLaws.{part_length}
 use Rattle.line.proofs.WordLaws.{WordEnds, ends-at-space, ends-with-line, byte-refused, less-left}
 use Rattle.line.proofs.NumberLaws.{Numbering, numbering-known, numbering-unknown}
 use Rattle.line.proofs.RefusalLaws.{refuses-byte}
-use Rattle.line.proofs.PassLaws.{Passing, passing-none, passing-more, passed}
+use Rattle.line.proofs.PassLaws.{passing-none, passing-more, passed}
 use Rattle.line.proofs.accept_line.Goals.{After-word_end-end, Joined-count-lt-MOST_WORDS, Joined-end-line}
+use Rattle.line.proofs.accept_line.Goals.{then-end-line+else-line-end-ne-SPACE, else-end-line, then-count-lt-MOST_WORDS+then-set-eq0, then-count-lt-MOST_WORDS+else-set-eq0, else-count-lt-MOST_WORDS}
 use Rattle.line.proofs.accept_line.Goals as goal
 
 -- The inputs and the word at hand.
@@ -61,10 +57,10 @@ ends : (c : Joined-end-line)
 ends c =
     let letters = c.word_end-end.ensures.taken in
     let inside = c.loop-at-test.true in
-    ⊎_elim
-    (λ at. ends-at-space letters (c.loop-at.invariant.0.counted.letter inside) at.0.taken at.2.left)
-    (λ at. ends-with-line letters inside at.left)
-    c.if-end-line.branch
+    elim c.if-end-line.branch [
+      | then-end-line+else-line-end-ne-SPACE w ↦ ends-at-space letters (c.loop-at.invariant.0.counted.letter inside) w.if-end-line.true w.if-line-end-ne-SPACE.false
+      | else-end-line w ↦ ends-with-line letters inside w.if-end-line.false
+    ]
 
 pub slice_bounds-look_up-count : goal.slice_bounds-look_up-count
 slice_bounds-look_up-count c = c.word_end-end.ensures.taken.after
@@ -94,14 +90,14 @@ noted c h =
     let n = c.loop-at.count + 1 in
     let After : Bool → List ℕ → Type 0 = Numbering (card_of (goal.at.Joined-count-lt-MOST_WORDS c).After-word_end-end) (line_of (goal.at.Joined-count-lt-MOST_WORDS c).After-word_end-end) c.word_end-end.result n in
     let before = c.loop-at.invariant.0.numbering (omega (arith, h)) in
-    ⊎_elim
-    (λ at. subst₂ After (sym at.7) (sym at.6)
-    (numbering-unknown before (ends (goal.at.Joined-count-lt-MOST_WORDS c).Joined-end-line) at.0.taken at.4.ensures (omega (arith, at.5.taken))))
-    (⊎_elim
-    (λ at. subst₂ After (sym at.7) (sym at.6)
-    (numbering-known before (ends (goal.at.Joined-count-lt-MOST_WORDS c).Joined-end-line) at.0.taken at.4.ensures (λ z. omega (arith, at.5.left, z))))
-    (λ at. absurd (omega (arith, h, at.0.left))))
-    c.if-count-lt-MOST_WORDS.branch
+    let e = ends (goal.at.Joined-count-lt-MOST_WORDS c).Joined-end-line in
+    elim c.if-count-lt-MOST_WORDS.branch [
+      | then-count-lt-MOST_WORDS+then-set-eq0 w ↦ subst₂ After (sym w.known-is) (sym w.places-is)
+          (numbering-unknown before e w.if-count-lt-MOST_WORDS.true w.look_up-set.ensures (omega (arith, w.if-set-eq0.true)))
+      | then-count-lt-MOST_WORDS+else-set-eq0 w ↦ subst₂ After (sym w.known-is) (sym w.places-is)
+          (numbering-known before e w.if-count-lt-MOST_WORDS.true w.look_up-set.ensures (λ z. omega (arith, w.if-set-eq0.false, z)))
+      | else-count-lt-MOST_WORDS w ↦ absurd (omega (arith, h, w.if-count-lt-MOST_WORDS.false))
+    ]
 
 pub word_start-at-requires-in-loop-at : goal.word_start-at-requires-in-loop-at
 word_start-at-requires-in-loop-at c = (ends (goal.at.word_start-at-requires-in-loop-at c).Joined-end-line).within

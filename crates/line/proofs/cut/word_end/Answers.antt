@@ -1,11 +1,7 @@
 -- Letters stand from `at` up to `end`, run after run; the first other byte ends them, or the line.
-use Prim.Native.Nat.{◌-◌}
 use native.Mathlib.Omega.{arith}
 use mathlib.Core.Path.{sym, ◌∙◌}
-use borrow.Author.Rules.{rules}
-use lib.ListN.{length}
 use Rattle.layout.proofs.TestLaws.{unless-true, unless-false}
-use Rattle.octets.specs.Letters.{Letters}
 use Rattle.octets.proofs.LetterLaws.{letters-more, letters-join}
 use Rattle.line.proofs.LetterLaws.{past-here, past-line}
 use Rattle.line.proofs.cut.word_end.Goals as goal

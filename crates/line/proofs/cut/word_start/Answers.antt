@@ -1,9 +1,6 @@
 -- Only spaces stand from `at` up to `i`, so the words from `at` on are those from `i` on. The first other byte starts a word, or the
 -- line ends.
-use Prim.Native.Nat.{◌-◌}
-use borrow.Author.Rules.{rules}
-use lib.ListN.{length}
-use Rattle.line.proofs.WordLaws.{Skipped, skipped-none, skipped-more, starts-at-letter, starts-nowhere}
+use Rattle.line.proofs.WordLaws.{skipped-none, skipped-more, starts-at-letter, starts-nowhere}
 use Rattle.line.proofs.cut.word_start.Goals as goal
 
 pub loop-i-init : goal.loop-i-init

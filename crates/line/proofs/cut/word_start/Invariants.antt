@@ -1,7 +1,6 @@
 use Prim.Native.Nat.{◌-◌}
-use borrow.Author.Rules.{rules}
 use lib.ListN.{length}
-use Rattle.line.proofs.WordLaws.{Skipped, skipped-none, skipped-more, starts-at-letter, starts-nowhere}
+use Rattle.line.proofs.WordLaws.{Skipped}
 use Rattle.line.proofs.cut.word_start.Given as goal
 
 abbrev pub invariant-loop-i : goal.invariant-loop-i

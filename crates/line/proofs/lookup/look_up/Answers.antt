@@ -1,10 +1,8 @@
 -- At the loop, the equal entries below `from` are in the set; each turn takes the next one, and goes on after it. No equal entry stands
 -- outside the range of the word's slot.
-use Prim.Native.Nat.{◌-◌}
 use native.Mathlib.Omega.{arith}
-use borrow.Author.Rules.{rules}
 use Rattle.line.proofs.CardLaws.{words-few}
-use Rattle.line.proofs.LookupLaws.{Inside, slot-inside, Gathered, gathered_none, gathered-all, gathered-on, gathered-more}
+use Rattle.line.proofs.LookupLaws.{Inside, slot-inside, gathered_none, gathered-all, gathered-on, gathered-more}
 use Rattle.line.proofs.lookup.look_up.Goals.{After-wide-from}
 use Rattle.line.proofs.lookup.look_up.Goals as goal
 

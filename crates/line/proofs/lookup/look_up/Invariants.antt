@@ -1,8 +1,5 @@
 use Prim.Native.Nat.{◌-◌}
-use native.Mathlib.Omega.{arith}
-use borrow.Author.Rules.{rules}
-use Rattle.line.proofs.CardLaws.{words-few}
-use Rattle.line.proofs.LookupLaws.{Inside, slot-inside, Gathered, gathered_none, gathered-all, gathered-on, gathered-more}
+use Rattle.line.proofs.LookupLaws.{Gathered}
 use Rattle.line.proofs.lookup.look_up.Given as goal
 
 abbrev pub invariant-loop-from : goal.invariant-loop-from

@@ -1,17 +1,14 @@
 -- No entry from `from` up to `next` is the word; while its bytes are compared, the entry at `here` agrees with the word up to `i`.
 -- Another length or a mismatch passes the entry over, and the end of the word has found it.
-use Prim.Native.Nat.{◌-◌}
 use native.Mathlib.Omega.{arith}
 use mathlib.Core.Path.{◌≡◌, ◌∙◌, ap, subst}
-use borrow.Author.Rules.{rules}
-use lib.ListN.{length}
 use Rattle.layout.specs.Bytes.{byte_at}
 use Rattle.layout.specs.Card.{entry_at, spelling_length}
 use Rattle.layout.proofs.ViewLaws.{header-most}
 use Rattle.card.proofs.Accepted.{view-entry}
 use Rattle.line.specs.Lookup.{NextEqual}
 use Rattle.line.proofs.CardLaws.{words-few}
-use Rattle.line.proofs.LookupLaws.{Looking, looking-first, next-nowhere, Comparing, Turn}
+use Rattle.line.proofs.LookupLaws.{looking-first, next-nowhere, Turn}
 use Rattle.line.proofs.LookupLaws.{turn-few, turn_inside, turn-other, comparing-first, byte_inside}
 use Rattle.line.proofs.LookupLaws.{comparing-on, other_byte, all-bytes}
 use Rattle.line.proofs.lookup.next_equal.Goals.{After-entry_at-entry, After-wide, At-loop-i, Else-to-next}
@@ -96,14 +93,14 @@ entry-smaller c =
 pub entry-preserved : goal.entry-preserved
 entry-preserved c =
     let t = turn_on (goal.at.entry-preserved c).At-loop-i in
-    other_byte t c.loop-i.invariant c.loop-i-test.true (rw (place-on (goal.at.entry-preserved c).At-loop-i) (goal.at.entry-preserved c).At-loop-i c.if-card-entry.true)
+    other_byte t c.loop-i.invariant c.loop-i-test.true (rw (place-on (goal.at.entry-preserved c).At-loop-i) at c.if-card-entry.true)
 
 pub loop-i-smaller : goal.loop-i-smaller
 loop-i-smaller c = omega (arith, c.loop-i-test.true)
 
 pub loop-i-preserved : goal.loop-i-preserved
 loop-i-preserved c =
-    comparing-on (turn_on (goal.at.loop-i-preserved c).At-loop-i) c.loop-i.invariant c.loop-i-test.true (rw (place-on (goal.at.loop-i-preserved c).At-loop-i) (goal.at.loop-i-preserved c).At-loop-i c.if-card-entry.false)
+    comparing-on (turn_on (goal.at.loop-i-preserved c).At-loop-i) c.loop-i.invariant c.loop-i-test.true (rw (place-on (goal.at.loop-i-preserved c).At-loop-i) at c.if-card-entry.false)
 
 pub returns-then-to-next : goal.returns-then-to-next
 returns-then-to-next c =

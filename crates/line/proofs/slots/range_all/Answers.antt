@@ -1,8 +1,7 @@
 -- At the loop, the entries before `v` stand where the tables say.
-use Prim.Native.Nat.{ℕ, ◌+◌, ◌-◌, ◌≤◌, ◌<◌, zero-le}
+use Prim.Native.Nat.{ℕ, ◌+◌, ◌≤◌, ◌<◌, zero-le}
 use native.Mathlib.Omega.{arith}
 use mathlib.Core.Path.{◌≡◌, ◌∙◌, ap, subst}
-use borrow.Author.Rules.{rules}
 use Rattle.layout.specs.Bytes.{byte_at}
 use lib.ListN.{length}
 use Rattle.layout.specs.Card.{word_count, max_words, most_letters, entry_at, entry_length, spelling_length}
@@ -51,14 +50,14 @@ short c =
     omega (arith, size c, most-letters c.args.card.now c.loop-v.v c.requires.0 (counted (goal.at.After-wide-size c).In-loop-v))
 
 pub overflow_add-entry : goal.overflow_add-entry
-overflow_add-entry c = omega (arith, inside (goal.at.overflow_add-entry c).After-entry_at-entry, c.well_formed.0)
+overflow_add-entry c = omega (arith, inside (goal.at.overflow_add-entry c).After-entry_at-entry)
 
 pub bounds-card-entry-in-loop-v : goal.bounds-card-entry-in-loop-v
 bounds-card-entry-in-loop-v c = omega (arith, inside (goal.at.bounds-card-entry-in-loop-v c).After-entry_at-entry)
 
 pub overflow_add-entry-in-loop-v : goal.overflow_add-entry-in-loop-v
 overflow_add-entry-in-loop-v c =
-    omega (arith, inside (goal.at.overflow_add-entry-in-loop-v c).After-entry_at-entry, short (goal.at.overflow_add-entry-in-loop-v c).After-wide-size, c.well_formed.0)
+    omega (arith, inside (goal.at.overflow_add-entry-in-loop-v c).After-entry_at-entry, short (goal.at.overflow_add-entry-in-loop-v c).After-wide-size)
 
 pub bounds-card-entry-in-loop-v-2 : goal.bounds-card-entry-in-loop-v-2
 bounds-card-entry-in-loop-v-2 c = omega (arith, inside (goal.at.bounds-card-entry-in-loop-v-2 c).After-entry_at-entry, short (goal.at.bounds-card-entry-in-loop-v-2 c).After-wide-size)
@@ -70,16 +69,16 @@ pub bounds-to-h : goal.bounds-to-h
 bounds-to-h c = c.slot-h.ensures.1
 
 pub overflow_cast-v : goal.overflow_cast-v
-overflow_cast-v c = omega (arith, few (goal.at.overflow_cast-v c).After-shared_slice_known-in-loop-v-1)
+overflow_cast-v c = omega (arith, few (goal.at.overflow_cast-v c).In-loop-v)
 
 pub bounds-from-h-in-loop-v : goal.bounds-from-h-in-loop-v
 bounds-from-h-in-loop-v c = c.slot-h.ensures.1
 
 pub overflow_add-v : goal.overflow_add-v
-overflow_add-v c = omega (arith, few (goal.at.overflow_add-v c).After-shared_slice_known-in-loop-v-1)
+overflow_add-v c = omega (arith, few (goal.at.overflow_add-v c).In-loop-v)
 
 pub overflow_cast-to : goal.overflow_cast-to
-overflow_cast-to c = omega (arith, few (goal.at.overflow_cast-to c).After-shared_slice_known-in-loop-v-1)
+overflow_cast-to c = omega (arith, few (goal.at.overflow_cast-to c).In-loop-v)
 
 pub bounds-to-h-in-loop-v : goal.bounds-to-h-in-loop-v
 bounds-to-h-in-loop-v c = c.slot-h.ensures.1
@@ -90,9 +89,9 @@ loop-v-smaller c = omega (arith, c.loop-v-test.true)
 pub loop-v-preserved : goal.loop-v-preserved
 loop-v-preserved c =
     let slot = c.slot-h.ensures in
-    let same = slot-there c.args.card.now c.loop-v.v _ _ c.requires.0 (counted (goal.at.loop-v-preserved c).After-shared_slice_known-in-loop-v-1) (omega (arith, place (goal.at.loop-v-preserved c).After-wide-size))
-    (omega (arith, place (goal.at.loop-v-preserved c).After-wide-size, size (goal.at.loop-v-preserved c).After-shared_slice_known-in-loop-v-3-1)) slot.0 in
-    (rw c.begins.ensures (ranged-more c.loop-v.invariant.0 same slot.1), omega (arith, counted (goal.at.loop-v-preserved c).After-shared_slice_known-in-loop-v-1))
+    let same = slot-there c.args.card.now c.loop-v.v _ _ c.requires.0 (counted (goal.at.loop-v-preserved c).In-loop-v) (omega (arith, place (goal.at.loop-v-preserved c).After-entry_at-entry))
+    (omega (arith, place (goal.at.loop-v-preserved c).After-entry_at-entry, size (goal.at.loop-v-preserved c).After-wide-size)) slot.0 in
+    (rw c.begins.ensures (ranged-more c.loop-v.invariant.0 same slot.1), omega (arith, counted (goal.at.loop-v-preserved c).In-loop-v))
 
 pub returns : goal.returns
 returns c =
