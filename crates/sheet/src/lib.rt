@@ -1,7 +1,7 @@
 // A whole sheet (document 02, Paper 1): every line is read, and only where all are read are the records of their pairs written.
 #![tactic(auto)]
 
-mod records;
+mod sheet_records;
 
 ghost use Rattle.std.specs.Prelude.{◌≡◌, ◌*◌, ◌+◌, ◌≤◌, length};
 ghost use Rattle.layout.specs.Card.{card_number};
@@ -10,7 +10,7 @@ ghost use Rattle.sheet.specs.Sheet.{most_lines};
 ghost use Rattle.sheet.specs.Promise.{Sheet};
 ghost use Rattle.sheet.specs.Reading.{RoomForLine, Adds, record_room, Ends, HandsOut};
 
-use records::RECORD_ROOM;
+use sheet_records::RECORD_ROOM;
 use split::line_end;
 
 // How many lines a sheet may have.
@@ -61,7 +61,7 @@ fn add_line(
         return Added { number, count };
     }
     let size = 4 * a.steps;
-    let with_its_own = records::add_records(card, &plan[..size], place, records, count);
+    let with_its_own = sheet_records::add_records(card, &plan[..size], place, records, count);
     Added {
         number: 0,
         count: with_its_own,
@@ -115,7 +115,7 @@ fn hand_out(records: &[u8], count: usize, output: &mut [u8]) -> Answer
     if output.len() < records.len() {
         return refusal(33, 0);
     }
-    bytes::copy(records, output);
+    output[..records.len()].copy_from_slice(records);
     Answer {
         number: 0,
         line: 0,

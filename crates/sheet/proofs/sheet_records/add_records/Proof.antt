@@ -5,8 +5,8 @@ use mathlib.Core.Path.{refl, sym}
 use lib.ListN.{length-take}
 use borrow.Author.Rules.{rules}
 use Rattle.sheet.proofs.RecordLaws.{count-pairs, pairs-few, taken-few, adds-records}
-use Rattle.sheet.proofs.records.add_records.Statement.{statement}
-use Rattle.sheet.proofs.records.add_records.Tie as tie
+use Rattle.sheet.proofs.sheet_records.add_records.Statement.{statement}
+use Rattle.sheet.proofs.sheet_records.add_records.Tie as tie
 
 slice-aggregate-pairs-of : tie.Need-slice-aggregate-pairs-of
 slice-aggregate-pairs-of c = search rules

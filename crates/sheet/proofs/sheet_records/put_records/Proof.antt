@@ -5,8 +5,8 @@ use native.Mathlib.Omega.{arith}
 use lib.ListN.{length, length-set}
 use Rattle.layout.proofs.Writing.{wrote-length}
 use Rattle.sheet.proofs.Placing.{Placing, placing-none, placing-more, placing-all}
-use Rattle.sheet.proofs.records.put_records.Statement.{statement}
-use Rattle.sheet.proofs.records.put_records.Tie as tie
+use Rattle.sheet.proofs.sheet_records.put_records.Statement.{statement}
+use Rattle.sheet.proofs.sheet_records.put_records.Tie as tie
 
 abbrev invariant-loop : tie.invariant-loop
 invariant-loop place pairs records₀ at here₀ p₀ records here p = Placing place pairs records₀ at records here p
