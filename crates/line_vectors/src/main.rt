@@ -8,6 +8,7 @@ mod sets;
 use line::{Accepted, accept};
 use places::MOST_WORDS;
 use split::line_end;
+use std::io;
 
 // Header; words; productions that are a word, that give and that take.
 const TOMATO: [u8; 138] = *b"LIG1\x06\x05\x02\x0b\x0c\0\x48\0\
@@ -20,46 +21,45 @@ const TOMATO: [u8; 138] = *b"LIG1\x06\x05\x02\x0b\x0c\0\x48\0\
 const ALIKE: [u8; 54] = *b"LIG1\x01\x03\0\x01\x0c\0\x30\0\
     \x01a\0\0\0\0\0\0\0\0\0\0\x02ab\0\0\0\0\0\0\0\0\0\x0babcdefghij0\0\0\0\0\0\0";
 
-fn print_next(n: u64) {
-    io::write_all(1, b" ");
-    io::print_decimal(1, n);
+fn print_next(rt: &impl Print, n: u64) -> io::Result<()> {
+    print!(rt; " {n}")
 }
 
-fn end_line() {
-    io::write_all(1, b"\n");
+fn end_line(rt: &impl Print) -> io::Result<()> {
+    println!(rt;)
 }
 
-fn print(r: Accepted) {
-    let places = r.places;
-    io::print_decimal(1, r.number);
-    print_next(r.count as u64);
-    let mut i = 0;
-    while i < MOST_WORDS {
-        print_next(places[i] as u64);
-        i += 1;
+fn print(rt: &impl Print, r: Accepted) -> io::Result<()> {
+    let number = r.number;
+    print!(rt; "{number}")?;
+    print_next(rt, r.count as u64)?;
+    for place in &r.places {
+        print_next(rt, *place as u64)?;
     }
-    end_line();
+    end_line(rt)
 }
 
 // The lines of a text, each ended by hex 0A, over a card.
-fn show_over(card: &[u8], text: &[u8]) {
+fn show_over(rt: &impl Print, card: &[u8], text: &[u8]) -> io::Result<()> {
     let mut at = 0;
     while at < text.len() {
         let end = line_end(text, at);
-        print(accept(card, &text[at..end]));
+        print(rt, accept(card, &text[at..end]))?;
         at = end + 1;
     }
+    Ok(())
 }
 
 // Over the tomato card.
-fn show(text: &[u8]) {
+fn show(rt: &impl Print, text: &[u8]) -> io::Result<()> {
     let card = TOMATO;
-    show_over(&card, text);
+    show_over(rt, &card, text)
 }
 
 // No word, one and more, up to the limit; spaces at the ends, doubled and alone.
-fn counts() {
+fn counts(rt: &impl Print) -> io::Result<()> {
     show(
+        rt,
         b"\n\
         takes\n\
         coir takes mild\n\
@@ -71,21 +71,22 @@ fn counts() {
         \x20 rich\n\
         rich  \n\
         \x20 coir   takes  mild \n",
-    );
+    )
 }
 
 // Many spaces, and then one word.
-fn spaces() {
+fn spaces(rt: &impl Print) -> io::Result<()> {
     let card = TOMATO;
     let mut line = [0x20u8; 4096];
-    print(accept(&card, &line));
+    print(rt, accept(&card, &line))?;
     line[4095] = b'x';
-    print(accept(&card, &line));
+    print(rt, accept(&card, &line))
 }
 
 // Bytes at the edges of what a line may hold.
-fn bytes() {
+fn bytes(rt: &impl Print) -> io::Result<()> {
     show(
+        rt,
         b"coir\ttakes\n\
         coir\x00\n\
         \x1fcoir\n\
@@ -98,12 +99,13 @@ fn bytes() {
         coir \xff\n\
         coir takes Mild\n\
         coir 0 9 a z\n",
-    );
+    )
 }
 
 // Words that are not on the card.
-fn words() {
+fn words(rt: &impl Print) -> io::Result<()> {
     show(
+        rt,
         b"coir gives mild\n\
         coi\n\
         coirs\n\
@@ -111,79 +113,79 @@ fn words() {
         coir takez\n\
         abcdefghijkl\n\
         mild coirtakes\n",
-    );
+    )
 }
 
-fn alike() {
+fn alike(rt: &impl Print) -> io::Result<()> {
     let card = ALIKE;
     show_over(
+        rt,
         &card,
         b"abcdefghij0 ab a ab\n\
         abc\n\
         abcdefghij\n\
         abcdefghij01\n\
         a b\n",
-    );
+    )
 }
 
 // The number of each line of one byte, in one row.
-fn every_byte() {
+fn every_byte(rt: &impl Print) -> io::Result<()> {
     let card = TOMATO;
-    let mut value: usize = 0;
-    while value < 256 {
+    for value in 0..256usize {
         let line = [value as u8];
-        print_next(accept(&card, &line).number);
-        value += 1;
+        print_next(rt, accept(&card, &line).number)?;
     }
-    end_line();
+    end_line(rt)
 }
 
 // Which of two refusals comes first.
-fn order() {
+fn order(rt: &impl Print) -> io::Result<()> {
     show(
+        rt,
         b"gives M\n\
         \x20 \x00\n\
         a a a a a a a a a a a a a a a a a a a a a a a a a\n\
         coir coir coir coir coir coir coir coir coir coir coir coir coir coir coir coir coir coir coir coir coir coir coir coir gives\n\
         A a a a a a a a a a a a a a a a a a a a a a a a a\n",
-    );
+    )
 }
 
 // Cards with one fault more each time, the last refusal of the six first; the line has a fault too. Two entries spelled alike are no
 // fault.
-fn cards() {
+fn cards(rt: &impl Print) -> io::Result<()> {
     let line = b"coir Takes";
     let mut card = TOMATO;
-    print(accept(b"", line));
-    print(accept(&card[..137], line));
+    print(rt, accept(b"", line))?;
+    print(rt, accept(&card[..137], line))?;
     card[25] = b'c';
     card[27] = b'i';
     card[28] = b'r';
-    print(accept(&card, line));
-    print(accept(&card, b"coir takes mild"));
-    print(accept(&card, b"wool takes rich"));
+    print(rt, accept(&card, line))?;
+    print(rt, accept(&card, b"coir takes mild"))?;
+    print(rt, accept(&card, b"wool takes rich"))?;
     card[91] = 5;
-    print(accept(&card, line));
+    print(rt, accept(&card, line))?;
     card[72] = 7;
-    print(accept(&card, line));
+    print(rt, accept(&card, line))?;
     card[24] = 0;
-    print(accept(&card, line));
+    print(rt, accept(&card, line))?;
     card[8] = 13;
-    print(accept(&card, line));
+    print(rt, accept(&card, line))?;
     card[4] = 17;
-    print(accept(&card, line));
+    print(rt, accept(&card, line))?;
     card[3] = 50;
-    print(accept(&card, line));
+    print(rt, accept(&card, line))
 }
 
-fn main() {
-    counts();
-    spaces();
-    bytes();
-    words();
-    alike();
-    every_byte();
-    order();
-    cards();
-    sets::all();
+fn main(rt: HostRuntime) -> io::Result<()> {
+    counts(&rt)?;
+    spaces(&rt)?;
+    bytes(&rt)?;
+    words(&rt)?;
+    alike(&rt)?;
+    every_byte(&rt)?;
+    order(&rt)?;
+    cards(&rt)?;
+    sets::all(&rt)
 }

@@ -1,5 +1,6 @@
 // Entries that are spelled alike: the set at a place has every word with its spelling, and no other.
 use crate::show_over;
+use std::io;
 
 // Words that start alike, some of them three times or twice; one production.
 const STARTS: [u8; 126] = *b"LIG1\x01\x09\0\x01\x0c\0\x78\0\
@@ -7,9 +8,10 @@ const STARTS: [u8; 126] = *b"LIG1\x01\x09\0\x01\x0c\0\x78\0\
     \x0babcdefghij0\x0babcdefghij1\x0babcdefghij0\
     \0\0\0\0\0\0";
 
-fn starts() {
+fn starts(rt: &impl Print) -> io::Result<()> {
     let card = STARTS;
     show_over(
+        rt,
         &card,
         b"mild mil milder mild2\n\
         abcdefghij1 abcdefghij0 mild\n\
@@ -18,7 +20,7 @@ fn starts() {
         milde\n\
         abcdefghij\n\
         mild mild Mild\n",
-    );
+    )
 }
 
 // Byte i of a card with 32 words, each of one given letter, and one production.
@@ -41,63 +43,64 @@ fn letters_byte(spelled: &[u8; 32], i: usize) -> u8 {
 
 fn letters(spelled: &[u8; 32]) -> [u8; 402] {
     let mut card = [0u8; 402];
-    let mut i = 0;
-    while i < 402 {
+    for i in 0..402 {
         card[i] = letters_byte(spelled, i);
-        i += 1;
     }
     card
 }
 
 // Lines over such a card.
-fn over(spelled: &[u8; 32], text: &[u8]) {
+fn over(rt: &impl Print, spelled: &[u8; 32], text: &[u8]) -> io::Result<()> {
     let card = letters(spelled);
-    show_over(&card, text);
+    show_over(rt, &card, text)
 }
 
 // Sets of 32, 31, 16 and 1.
-fn many() {
+fn many(rt: &impl Print) -> io::Result<()> {
     over(
+        rt,
         b"mmmmmmmmmmmmmmmmmmmmmmmmmmmmmmmm",
         b"m\n\
         m m m m m m m m m m m m m m m m m m m m m m m m\n\
         m m m m m m m m m m m m m m m m m m m m m m m m m\n\
         mm\n\
         m n\n",
-    );
-    over(b"nmmmmmmmmmmmmmmmmmmmmmmmmmmmmmmm", b"m n\n");
-    over(b"mmmmmmmmmmmmmmmmmmmmmmmmmmmmmmmn", b"m n\n");
-    over(b"aaaaaaaaaaaaaaaabbbbbbbbbbbbbbbb", b"a b a\n");
-    over(b"abababababababababababababababab", b"a b a\n");
+    )?;
+    over(rt, b"nmmmmmmmmmmmmmmmmmmmmmmmmmmmmmmm", b"m n\n")?;
+    over(rt, b"mmmmmmmmmmmmmmmmmmmmmmmmmmmmmmmn", b"m n\n")?;
+    over(rt, b"aaaaaaaaaaaaaaaabbbbbbbbbbbbbbbb", b"a b a\n")?;
+    over(rt, b"abababababababababababababababab", b"a b a\n")?;
     over(
+        rt,
         b"abcdefghijklmnopqrstuvwxyz012345",
         b"a b c d e f g h i j k l m n o p q r s t u v w x\n\
         y z 0 1 2 3 4 5\n\
         6\n",
-    );
+    )
 }
 
 // Two equal entries with others between: at the ends, next to them, and in the middle.
-fn apart() {
-    over(b"zabcdefghijklmnopqrstuvwxy01234z", b"z a z 4\n");
-    over(b"azbcdefghijklmnopqrstuvwxy0123z4", b"z a z 4\n");
-    over(b"abcdefghijklmnozpqrstuvzwxy01234", b"z o w\n");
+fn apart(rt: &impl Print) -> io::Result<()> {
+    over(rt, b"zabcdefghijklmnopqrstuvwxy01234z", b"z a z 4\n")?;
+    over(rt, b"azbcdefghijklmnopqrstuvwxy0123z4", b"z a z 4\n")?;
+    over(rt, b"abcdefghijklmnozpqrstuvzwxy01234", b"z o w\n")
 }
 
 // 0 to 9 and p to y have the same low five bits, in this order: both on the card, either alone, and one at the ends.
-fn low_bits() {
+fn low_bits(rt: &impl Print) -> io::Result<()> {
     over(
+        rt,
         b"p0q1r2s3t4u5v6w7x8y9p0q1r2s3t4u5",
         b"p 0 q 1 r 2 s 3 t 4 u 5 v 6 w 7 x 8 y 9\na\n",
-    );
-    over(b"pqrstuvwxypqrstuvwxypqrstuvwxypq", b"p y q\n0\np 9\n");
-    over(b"01234567890123456789012345678901", b"0 9 1\np\n0 y\n");
-    over(b"0pppppppppppppppppppppppppppppp0", b"0 p\n0 p q\n");
+    )?;
+    over(rt, b"pqrstuvwxypqrstuvwxypqrstuvwxypq", b"p y q\n0\np 9\n")?;
+    over(rt, b"01234567890123456789012345678901", b"0 9 1\np\n0 y\n")?;
+    over(rt, b"0pppppppppppppppppppppppppppppp0", b"0 p\n0 p q\n")
 }
 
-pub fn all() {
-    starts();
-    many();
-    apart();
-    low_bits();
+pub fn all(rt: &impl Print) -> io::Result<()> {
+    starts(rt)?;
+    many(rt)?;
+    apart(rt)?;
+    low_bits(rt)
 }

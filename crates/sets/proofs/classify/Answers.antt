@@ -27,7 +27,7 @@ pub loop-p-init : goal.loop-p-init
 loop-p-init c =
     (
       omega arith,
-      (refl, λ (goal.at.loop-p-init c).Start h. refl),
+      (refl, λ at h. refl),
       classified-none _ c.requires.1 (λ k. ap (λ (l : List ℕ). get_or l k 0) c.requires.2 ∙ zero-at (length c.args.sets.now) k),
     )
 
@@ -44,13 +44,13 @@ class_one-requires c =
     let card = c.args.card.now in
     let l = c.loop-p in (
       l.invariant.2.long,
-      omega (arith, counted (goal.at.class_one-requires c).In-loop-p few-rules card c.requires.0),
+      omega (arith, counted (goal.at.class_one-requires c).In-loop-p, few-rules card c.requires.0),
       rw c.production-rule.ensures (rule-named card c.requires.0 l.p (counted (goal.at.class_one-requires c).In-loop-p)),
     )
 
 pub overflow_add-p : goal.overflow_add-p
 overflow_add-p c =
-    omega (arith, counted (goal.at.overflow_add-p c).In-loop-p few-rules c.args.card.now c.requires.0)
+    omega (arith, counted (goal.at.overflow_add-p c).In-loop-p, few-rules c.args.card.now c.requires.0)
 
 pub loop-p-preserved : goal.loop-p-preserved
 loop-p-preserved c =

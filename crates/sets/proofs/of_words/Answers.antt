@@ -28,7 +28,7 @@ pub offset_bounds-sets-w : goal.offset_bounds-sets-w
 offset_bounds-sets-w c = omega (arith, small (goal.at.offset_bounds-sets-w c).After-least-w)
 
 pub bounds-sets-w : goal.bounds-sets-w
-bounds-sets-w c = omega (arith, small (goal.at.bounds-sets-w c).After-least-w c.requires)
+bounds-sets-w c = omega (arith, small (goal.at.bounds-sets-w c).After-least-w, c.requires)
 
 pub loop-rest-smaller : goal.loop-rest-smaller
 loop-rest-smaller c = c.without-rest.ensures.less
