@@ -18,66 +18,54 @@ use Rattle.steps.proofs.StepCover.{advance-past, advance-turn, advance-over, adv
 use Rattle.chart.proofs.CardFits.{production-there, production-fits}
 use Rattle.chart.proofs.CellLaws.{at_split, left_out}
 use borrow.Author.Rules.{rules}
-use Rattle.chart.proofs.cell.across_splits.Goals.{After-by_production-total, After-least-k, After-production_table-table, After-splits_of-rest, After-struct_known-1, Start}
+use Rattle.chart.proofs.cell.across_splits.Goals.{After-least-k, After-production_table-table, After-splits_of-rest}
 use Rattle.chart.proofs.cell.across_splits.Goals as goal
 
 -- The production is there.
 module _ (c : After-production_table-table) where
-  abbrev begin : tie.Start invariant-loop decreases-loop
-  begin = (goal.at.After-production_table-table c).Start
-
-  there : ProductionThere begin.args.card.now c.production_table-table.result begin.args.p
+  there : ProductionThere c.args.card.now c.production_table-table.result c.args.p
   there =
-      production-there begin.args.card.now begin.pre.1.accepted begin.args.p begin.pre.2.counted
+      production-there c.args.card.now c.requires.1.accepted c.args.p c.requires.2.counted
       (c.production_table-table.ensures ∙ view-table c.of.ensures)
 
 -- Its splits lie inside the span, and at the others all its items are there.
 module _ (c : After-splits_of-rest) where
-  abbrev start : tie.Start invariant-loop decreases-loop
-  start = begin (goal.at.After-splits_of-rest c).After-production_table-table
+  below : c.args.p < max_productions
+  below = omega (arith, few-rules c.args.card.now c.requires.1.accepted, c.requires.2.counted)
 
-  below : start.args.p < max_productions
-  below = omega (arith, few-rules start.args.card.now start.pre.1.accepted, start.pre.2.counted)
+  inside : (k : ℕ) → bit_of k c.splits_of-rest.result ≡ 1 → (c.args.cell.from < k) × (k < c.args.cell.to)
+  inside k o = c.requires.1.splits.inside k (c.splits_of-rest.ensures.only k o)
 
-  inside : (k : ℕ) → bit_of k c.splits_of-rest.result ≡ 1 → (start.args.cell.from < k) × (k < start.args.cell.to)
-  inside k o = start.pre.1.splits.inside k (c.splits_of-rest.ensures.only k o)
-
-  known : let a = start.args in
+  known : let a = c.args in
       (k : ℕ) → a.cell.from < k → k < a.cell.to → bit_of k c.splits_of-rest.result ≡ 0
       → Known (chart_in a.chart.now a.count) (at_split a.card.now a.cell a.p (begun_with a.cell a.chart.now) k)
-  known = left_out start.args.card.now start.pre.1 start.pre.2 c.like_before-like.ensures c.splits_of-rest.ensures
+  known = left_out c.args.card.now c.requires.1 c.requires.2 c.like_before-like.ensures c.splits_of-rest.ensures
 
 -- The split of a turn.
 module _ (c : After-least-k) where
-  abbrev begun : tie.After-splits-of invariant-loop decreases-loop
-  begun = (goal.at.After-least-k c).After-splits_of-rest
+  within : (c.args.cell.from < c.least-k.result) × (c.least-k.result < c.args.cell.to)
+  within = inside (goal.at.After-least-k c).After-splits_of-rest c.least-k.result (walk-has c.loop-rest.invariant.2 c.least-k.ensures)
 
-  abbrev outer : tie.Start invariant-loop decreases-loop
-  outer = start begun
-
-  within : (outer.args.cell.from < c.least-k.result) × (c.least-k.result < outer.args.cell.to)
-  within = inside begun c.least-k.result (walk-has c.loop-rest.invariant.2 c.least-k.ensures)
-
-  passed : let a = outer.args in
+  passed : let a = c.args in
       let loop = c.loop-rest in
       Advancing a.cell (at_split a.card.now a.cell a.p) (suc a.cell.from) a.cell.to a.chart.now a.marks.now
       a.cells.now a.count loop.chart loop.marks loop.cells c.least-k.result loop.total
   passed =
       let inv = c.loop-rest.invariant in
-      let F = at_split outer.args.card.now outer.args.cell outer.args.p in
+      let F = at_split c.args.card.now c.args.cell c.args.p in
       advance-past {F = F} inv.1 c.least-k.result (walk_from inv.2 c.least-k.ensures) (omega (arith, within))
       (λ q l h r m. advance-wider {F = F} inv.1 _
-      (known begun q (omega (arith, inv.1.looped.begun)) (omega (arith, within)) (walk-passed inv.2 c.least-k.ensures q l h) r m))
+      (known (goal.at.After-least-k c).After-splits_of-rest q (omega (arith, inv.1.looped.begun)) (omega (arith, within)) (walk-passed inv.2 c.least-k.ensures q l h) r m))
 
   -- The call of a turn adds what the rule adds there.
-  adds-as : let a = outer.args in
+  adds-as : let a = c.args in
       let b = begun_with a.cell c.loop-rest.chart in
-      by_rule b a.cell.left a.cell.from c.least-k.result a.cell.to a.p (rule_from begun.before.before.production.result)
+      by_rule b a.cell.left a.cell.from c.least-k.result a.cell.to a.p (rule_from c.production-rule.result)
       ≡ at_split a.card.now a.cell a.p b c.least-k.result
   adds-as =
-      let a = outer.args in
+      let a = c.args in
       ap (λ (r : Rule). by_rule (begun_with a.cell c.loop-rest.chart) a.cell.left a.cell.from c.least-k.result
-      a.cell.to a.p r) begun.before.before.production.ensures
+      a.cell.to a.p r) c.production-rule.ensures
 
 pub production_table-table-requires : goal.production_table-table-requires
 production_table-table-requires c = (c.of.ensures.short_header, c.of.ensures.few_words)
@@ -90,17 +78,17 @@ like_before-like-requires c = there (goal.at.like_before-like-requires c).After-
 
 pub splits_of-rest-requires : goal.splits_of-rest-requires
 splits_of-rest-requires c =
-    let s = begin (goal.at.splits_of-rest-requires c).After-production_table-table in (
-      omega (arith, few-rules s.args.card.now s.pre.1.accepted, s.pre.2.counted),
-      s.pre.1.long,
-      λ k o. omega (arith, s.pre.0.works.words_fit, s.pre.0.inside.2, (s.pre.1.splits.inside k o).1),
+    let s = c in (
+      omega (arith, few-rules s.args.card.now s.requires.1.accepted, s.requires.2.counted),
+      s.requires.1.long,
+      λ k o. omega (arith, s.requires.0.works.words_fit, s.requires.0.inside.2, (s.requires.1.splits.inside k o).1),
     )
 
 pub loop-rest-init : goal.loop-rest-init
 loop-rest-init c =
-    let s = start c in (
+    let s = c in (
       suc s.args.cell.from,
-      advance-start s.pre.0,
+      advance-start s.requires.0,
       walk_start c.splits_of-rest.result (suc s.args.cell.from)
           (λ q l. bit-zero-unless q c.splits_of-rest.result (λ o. absurd (omega (arith, inside c q o)))),
     )
@@ -113,58 +101,50 @@ without-rest-requires c = (c.least-k.ensures.small, c.least-k.ensures.has)
 
 pub overflow_cast-k : goal.overflow_cast-k
 overflow_cast-k c =
-    omega (arith, (within (goal.at.overflow_cast-k c).After-least-k).1, (outer (goal.at.overflow_cast-k c).After-least-k).requires.0.inside.2, (outer (goal.at.overflow_cast-k c).After-least-k).requires.0.works.words_fit)
+    omega (arith, (within (goal.at.overflow_cast-k c).After-least-k).1, c.requires.0.inside.2, c.requires.0.works.words_fit)
 
 pub overflow_cast-p : goal.overflow_cast-p
-overflow_cast-p c = omega (arith, below (begun (goal.at.overflow_cast-p c).After-least-k))
+overflow_cast-p c = omega (arith, below (goal.at.overflow_cast-p c).After-splits_of-rest)
 
 pub by_production-total-requires : goal.by_production-total-requires
 by_production-total-requires c =
-    let s = outer (goal.at.by_production-total-requires c).After-least-k in (
-      advance-filling {F = at_split s.args.card.now s.args.cell s.args.p} c.loop-rest.invariant.1 s.pre.0,
-      rw (begun (goal.at.by_production-total-requires c).After-least-k).before.before.production.ensures
-          (production-fits s.args.card.now s.pre.1.accepted s.args.p s.pre.2.counted s.pre.1.names),
+    let s = c in (
+      advance-filling {F = at_split s.args.card.now s.args.cell s.args.p} c.loop-rest.invariant.1 s.requires.0,
+      rw c.production-rule.ensures
+          (production-fits s.args.card.now s.requires.1.accepted s.args.p s.requires.2.counted s.requires.1.names),
       (within (goal.at.by_production-total-requires c).After-least-k).0,
       (within (goal.at.by_production-total-requires c).After-least-k).1,
     )
 
--- The call of a turn.
-abbrev here : After-by_production-total → tie.After-least invariant-loop decreases-loop
-here c = (goal.at.After-by_production-total c).After-least-k
-
--- The last place of a turn, and its call.
-abbrev call : After-struct_known-1 → tie.After-by-production invariant-loop decreases-loop
-call c = (goal.at.After-struct_known-1 c).After-by_production-total
-
 pub shape_of-chart-then-cell-total : goal.shape_of-chart-then-cell-total
 shape_of-chart-then-cell-total c =
-    (call (goal.at.shape_of-chart-then-cell-total c).After-struct_known-1).by-production.ensures.added.same_room ∙ (here (call (goal.at.shape_of-chart-then-cell-total c).After-struct_known-1)).before.before.loop.inv.1.looped.sofar.same_room
+    c.by_production-total.ensures.added.same_room ∙ c.loop-rest.invariant.1.looped.sofar.same_room
 
 pub shape_of-marks-then-cell-total : goal.shape_of-marks-then-cell-total
 shape_of-marks-then-cell-total c =
-    (call (goal.at.shape_of-marks-then-cell-total c).After-struct_known-1).by-production.ensures.added.same_marks ∙ (here (call (goal.at.shape_of-marks-then-cell-total c).After-struct_known-1)).before.before.loop.inv.1.looped.sofar.same_marks
+    c.by_production-total.ensures.added.same_marks ∙ c.loop-rest.invariant.1.looped.sofar.same_marks
 
 pub shape_of-cells-then-cell-total : goal.shape_of-cells-then-cell-total
-shape_of-cells-then-cell-total c = (call (goal.at.shape_of-cells-then-cell-total c).After-struct_known-1).by-production.ensures.same_cells ∙ (here (call (goal.at.shape_of-cells-then-cell-total c).After-struct_known-1)).before.before.loop.inv.1.same_cells
+shape_of-cells-then-cell-total c = c.by_production-total.ensures.same_cells ∙ c.loop-rest.invariant.1.same_cells
 
 pub returns-then-cell-total : goal.returns-then-cell-total
 returns-then-cell-total c =
-    let t = here (call (goal.at.returns-then-cell-total c).After-struct_known-1) in
-    let a = (outer t).args in
-    advance-over {F = at_split a.card.now a.cell a.p} (passed t) (outer t).pre.0 (within t).1
-    (advanced-as (adds-as t) (call (goal.at.returns-then-cell-total c).After-struct_known-1).by-production.ensures) c.if-cell-total.true
+    let t = (goal.at.returns-then-cell-total c).After-least-k in
+    let a = c.args in
+    advance-over {F = at_split a.card.now a.cell a.p} (passed t) c.requires.0 (within t).1
+    (advanced-as (adds-as t) c.by_production-total.ensures) c.if-cell-total.true
 
 pub loop-rest-smaller : goal.loop-rest-smaller
-loop-rest-smaller c = (call (goal.at.loop-rest-smaller c).After-struct_known-1).before.before.before.before.without.ensures.less
+loop-rest-smaller c = c.without-rest.ensures.less
 
 pub loop-rest-preserved : goal.loop-rest-preserved
 loop-rest-preserved c =
-    let t = here (call (goal.at.loop-rest-preserved c).After-struct_known-1) in
-    let a = (outer t).args in (
-      t.least.result + 1,
-      advance-turn {F = at_split a.card.now a.cell a.p} (passed t) (outer t).pre.0 (within t).1
-          (advanced-as (adds-as t) (call (goal.at.loop-rest-preserved c).After-struct_known-1).by-production.ensures) c.if-cell-total.false,
-      walk-next t.before.before.loop.inv.2 t.least.ensures (call (goal.at.loop-rest-preserved c).After-struct_known-1).before.before.before.before.without.ensures,
+    let t = (goal.at.loop-rest-preserved c).After-least-k in
+    let a = c.args in (
+      c.least-k.result + 1,
+      advance-turn {F = at_split a.card.now a.cell a.p} (passed t) c.requires.0 (within t).1
+          (advanced-as (adds-as t) c.by_production-total.ensures) c.if-cell-total.false,
+      walk-next c.loop-rest.invariant.2 c.least-k.ensures c.without-rest.ensures,
     )
 
 pub shape_of-chart : goal.shape_of-chart
@@ -179,7 +159,7 @@ shape_of-cells c = c.loop-rest.invariant.1.same_cells
 pub returns : goal.returns
 returns c =
     let inv = c.loop-rest.invariant in
-    let a = (start (goal.at.returns c).After-splits_of-rest).args in
+    let a = c.args in
     let F = at_split a.card.now a.cell a.p in
     advance-rest-known {F = F} inv.1
     (λ q l h r m. advance-wider {F = F} inv.1 _

@@ -43,11 +43,11 @@ returns-then-is_word c =
     let a = c.args in
     added-as
     (word-one a.words a.cell.left a.cell.from a.p (rule_from a.rule) a.cell.to c.requires.1
-    (sym c.is_IsWord.ensures ∙ c.if-is_word.true))
+    (sym c.is_word.ensures ∙ c.if-is_word.true))
     c.add.ensures
 
 pub returns : goal.returns
 returns c =
     let a = c.args in
-    added-as (word_none a.words a.cell.left a.cell.from a.p (rule_from a.rule) (sym c.is_IsWord.ensures ∙ c.if-is_word.false))
+    added-as (word_none a.words a.cell.left a.cell.from a.p (rule_from a.rule) (sym c.is_word.ensures ∙ c.if-is_word.false))
     (added_none c.requires.0)

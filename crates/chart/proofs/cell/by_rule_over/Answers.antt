@@ -16,35 +16,28 @@ use Rattle.steps.proofs.StepCover.{advanced-kept, advanced-as}
 use Rattle.chart.specs.Cell.{one_of}
 use Rattle.chart.proofs.CardFits.{production-there}
 use Rattle.chart.proofs.CellLaws.{over_word, over-splits}
-use Rattle.chart.proofs.cell.by_rule_over.Goals.{After-wide-to, Start, Then-to-from-eq1}
 use Rattle.chart.proofs.cell.by_rule_over.Goals as goal
-
-abbrev start : After-wide-to → tie.Start
-start c = (goal.at.After-wide-to c).Start
 
 pub production_table-table-requires : goal.production_table-table-requires
 production_table-table-requires c = (c.of.ensures.short_header, c.of.ensures.few_words)
 
 pub production-rule-requires : goal.production-rule-requires
 production-rule-requires c =
-    let s = start (goal.at.production-rule-requires c).After-wide-to in
-    production-there s.args.card.now s.pre.1.accepted s.args.p s.pre.2.counted
+    production-there c.args.card.now c.requires.1.accepted c.args.p c.requires.2.counted
     (c.production_table-table.ensures ∙ view-table c.of.ensures)
 
 pub at_word-requires : goal.at_word-requires
-at_word-requires c =
-    let s = start (goal.at.at_word-requires c).After-wide-to in (
-      s.pre.0.works,
-      omega (arith, c.if-to-from-eq1.true, c.wide-from.ensures, c.wide-to.ensures, s.pre.0.inside.1),
-      omega (arith, few-rules s.args.card.now s.pre.1.accepted, s.pre.2.counted),
-    )
+at_word-requires c = (
+  c.requires.0.works,
+  omega (arith, c.if-to-from-eq1.true, c.wide-from.ensures, c.wide-to.ensures, c.requires.0.inside.1),
+  omega (arith, few-rules c.args.card.now c.requires.1.accepted, c.requires.2.counted),
+)
 
 pub returns-then-to-from-eq1 : goal.returns-then-to-from-eq1
 returns-then-to-from-eq1 c =
-    let s = start (goal.at.returns-then-to-from-eq1 c).After-wide-to in
-    let a = s.args in
+    let a = c.args in
     let from = c.wide-from in
-    advanced-kept s.pre.0
+    advanced-kept c.requires.0
     (added-as
     (ap (λ (r : Rule). by_word (one_of (get_or a.places.now from.result 0)) a.cell.left a.cell.from a.p r) c.production-rule.ensures
     ∙ over_word (begun_with a.cell a.chart.now) a.cell.left a.cell.from a.places.now a.cell.to from.result a.p
@@ -53,14 +46,13 @@ returns-then-to-from-eq1 c =
     c.at_word.ensures)
 
 pub across_splits-requires : goal.across_splits-requires
-across_splits-requires c = (start (goal.at.across_splits-requires c).After-wide-to).requires
+across_splits-requires c = c.requires
 
 pub returns : goal.returns
 returns c =
-    let s = start (goal.at.returns c).After-wide-to in
-    let a = s.args in
+    let a = c.args in
     advanced-as
     (over-splits (begun_with a.cell a.chart.now) a.cell.left a.cell.from (word_test a.places.now) a.cell.to a.p
-    (production a.card.now a.p) s.pre.0.inside.1
+    (production a.card.now a.p) c.requires.0.inside.1
     (λ q. c.if-to-from-eq1.false (omega (arith, c.wide-from.ensures, c.wide-to.ensures))))
     c.across_splits.ensures

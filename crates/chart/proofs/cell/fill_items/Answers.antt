@@ -11,32 +11,29 @@ use Rattle.sets.proofs.CardRules.{rules-length, rule-there, few-rules}
 use Rattle.steps.proofs.StepCover.{Advancing, advanced-as, advance-start, advance-filling, advance-to, advance-turn, advance-over, advance-rest}
 use Rattle.chart.proofs.CardFits.{few-length}
 use Rattle.chart.proofs.CellLaws.{by_number, chosen-next, chosen-passed, chosen-after, bit-within, all-chosen, given-kept, past-known}
-use Rattle.chart.proofs.cell.fill_items.Goals.{After-by_rule_over-total, After-least-p, After-struct_known-1, Start}
+use Rattle.chart.proofs.cell.fill_items.Goals.{After-by_rule_over-total, After-least-p}
 use Rattle.chart.proofs.cell.fill_items.Goals as goal
 
 -- A turn's production, and none of those on the way to it.
 module _ (c : After-least-p) where
-  abbrev start : tie.Start invariant-loop decreases-loop
-  start = (goal.at.After-least-p c).Start
-
-  within : c.least-p.result < production_count start.args.card.now
+  within : c.least-p.result < production_count c.args.card.now
   within =
-      let card = start.args.card.now in
+      let card = c.args.card.now in
       omega (
         arith,
-        bit-within c.least-p.result start.pre.2 (walk-has c.loop-rest.invariant.2 c.least-p.ensures),
+        bit-within c.least-p.result c.requires.2 (walk-has c.loop-rest.invariant.2 c.least-p.ensures),
         rules-length card (production_count card),
       )
 
   below : c.least-p.result < max_productions
-  below = omega (arith, within, few-rules start.args.card.now start.pre.1.accepted)
+  below = omega (arith, within, few-rules c.args.card.now c.requires.1.accepted)
 
-  passed : let a = start.args in
+  passed : let a = c.args in
       let loop = c.loop-rest in
       Advancing a.cell (by_number a.card.now a.places.now a.cell a.set) 0 max_productions a.chart.now a.marks.now
       a.cells.now a.count loop.chart loop.marks loop.cells c.least-p.result loop.total
   passed =
-      let a = start.args in
+      let a = c.args in
       let loop = c.loop-rest in
       advance-to {F = by_number a.card.now a.places.now a.cell a.set} loop.invariant.1 c.least-p.result
       (walk_from loop.invariant.2 c.least-p.ensures) (omega (arith, below))
@@ -44,29 +41,21 @@ module _ (c : After-least-p) where
       a.cell.from (a.cell.to - a.cell.from) loop.rest loop.invariant.0 loop.invariant.2 c.least-p.result c.least-p.ensures)
 
 -- What the call in a turn adds.
-abbrev turn : After-by_rule_over-total → tie.After-least invariant-loop decreases-loop
-turn c = (goal.at.After-by_rule_over-total c).After-least-p
-
 turned : (c : After-by_rule_over-total)
-    → let a = (start (turn c)).args in
-    let loop = (turn c).before.before.loop in
+    → let a = c.args in
+    let loop = c.loop-rest in
     AdvancedTo a.cell
-    (by_number a.card.now a.places.now a.cell a.set (begun_with a.cell loop.chart) (turn c).least.result)
-    loop.chart loop.marks loop.cells loop.total c.by_rule_over-total.new.0 c.by_rule_over-total.new.1.0
-    c.by_rule_over-total.new.1.1.0 c.by_rule_over-total.result
+    (by_number a.card.now a.places.now a.cell a.set (begun_with a.cell loop.chart) c.least-p.result)
+    loop.chart loop.marks loop.cells loop.total c.by_rule_over-total.new.chart c.by_rule_over-total.new.marks
+    c.by_rule_over-total.new.cells c.by_rule_over-total.result
 turned c =
-    let here = turn c in
-    let a = (start here).args in
-    let loop = here.before.before.loop in
+    let a = c.args in
+    let loop = c.loop-rest in
     advanced-as
     (chosen-next a.set (grammar_of a.card.now) (word_test a.places.now) (begun_with a.cell loop.chart) a.cell.left
-    a.cell.from (a.cell.to - a.cell.from) loop.rest loop.inv.0 loop.inv.2 here.least.result here.least.ensures
-    (rule-there a.card.now (production_count a.card.now) here.least.result (within here)))
+    a.cell.from (a.cell.to - a.cell.from) loop.rest loop.invariant.0 loop.invariant.2 c.least-p.result c.least-p.ensures
+    (rule-there a.card.now (production_count a.card.now) c.least-p.result (within (goal.at.After-by_rule_over-total c).After-least-p)))
     c.by_rule_over-total.ensures
-
--- The last place of a turn, and its call.
-abbrev call : After-struct_known-1 → tie.After-by-rule-over invariant-loop decreases-loop
-call c = (goal.at.After-struct_known-1 c).After-by_rule_over-total
 
 pub loop-rest-init : goal.loop-rest-init
 loop-rest-init c =
@@ -80,47 +69,47 @@ without-rest-requires c = (c.least-p.ensures.small, c.least-p.ensures.has)
 
 pub by_rule_over-total-requires : goal.by_rule_over-total-requires
 by_rule_over-total-requires c =
-    let s = start (goal.at.by_rule_over-total-requires c).After-least-p in
+    let s = c in
     let a = s.args in
     let inv = c.loop-rest.invariant.1 in
     let F = by_number a.card.now a.places.now a.cell a.set in (
-      advance-filling {F = F} inv s.pre.0,
-      given-kept {F = F} inv s.pre.0 s.pre.1,
-      record { counted = within (goal.at.by_rule_over-total-requires c).After-least-p past = past-known a.card.now a.places.now s.pre.0 s.pre.2 (within (goal.at.by_rule_over-total-requires c).After-least-p) (passed (goal.at.by_rule_over-total-requires c).After-least-p) },
+      advance-filling {F = F} inv s.requires.0,
+      given-kept {F = F} inv s.requires.0 s.requires.1,
+      record { counted = within (goal.at.by_rule_over-total-requires c).After-least-p; past = past-known a.card.now a.places.now s.requires.0 s.requires.2 (within (goal.at.by_rule_over-total-requires c).After-least-p) (passed (goal.at.by_rule_over-total-requires c).After-least-p) },
     )
 
 pub shape_of-chart-then-cell-total : goal.shape_of-chart-then-cell-total
 shape_of-chart-then-cell-total c =
-    (call (goal.at.shape_of-chart-then-cell-total c).After-struct_known-1).by-rule-over.ensures.added.same_room ∙ (turn (call (goal.at.shape_of-chart-then-cell-total c).After-struct_known-1)).before.before.loop.inv.1.looped.sofar.same_room
+    c.by_rule_over-total.ensures.added.same_room ∙ c.loop-rest.invariant.1.looped.sofar.same_room
 
 pub shape_of-marks-then-cell-total : goal.shape_of-marks-then-cell-total
 shape_of-marks-then-cell-total c =
-    (call (goal.at.shape_of-marks-then-cell-total c).After-struct_known-1).by-rule-over.ensures.added.same_marks ∙ (turn (call (goal.at.shape_of-marks-then-cell-total c).After-struct_known-1)).before.before.loop.inv.1.looped.sofar.same_marks
+    c.by_rule_over-total.ensures.added.same_marks ∙ c.loop-rest.invariant.1.looped.sofar.same_marks
 
 pub shape_of-cells-then-cell-total : goal.shape_of-cells-then-cell-total
-shape_of-cells-then-cell-total c = (call (goal.at.shape_of-cells-then-cell-total c).After-struct_known-1).by-rule-over.ensures.same_cells ∙ (turn (call (goal.at.shape_of-cells-then-cell-total c).After-struct_known-1)).before.before.loop.inv.1.same_cells
+shape_of-cells-then-cell-total c = c.by_rule_over-total.ensures.same_cells ∙ c.loop-rest.invariant.1.same_cells
 
 pub returns-then-cell-total : goal.returns-then-cell-total
 returns-then-cell-total c =
-    let here = turn (call (goal.at.returns-then-cell-total c).After-struct_known-1) in
-    let s = start here in
+    let here = (goal.at.returns-then-cell-total c).After-least-p in
+    let s = c in
     let a = s.args in
-    advanced-as (all-chosen (grammar_of a.card.now) s.pre.2 max_productions (few-length a.card.now s.pre.1.accepted))
-    (advance-over {F = by_number a.card.now a.places.now a.cell a.set} (passed here) s.pre.0 (below here)
-    (turned (call (goal.at.returns-then-cell-total c).After-struct_known-1)) c.if-cell-total.true)
+    advanced-as (all-chosen (grammar_of a.card.now) s.requires.2 max_productions (few-length a.card.now s.requires.1.accepted))
+    (advance-over {F = by_number a.card.now a.places.now a.cell a.set} (passed here) s.requires.0 (below here)
+    (turned (goal.at.returns-then-cell-total c).After-by_rule_over-total) c.if-cell-total.true)
 
 pub loop-rest-smaller : goal.loop-rest-smaller
-loop-rest-smaller c = (call (goal.at.loop-rest-smaller c).After-struct_known-1).before.before.before.before.without.ensures.less
+loop-rest-smaller c = c.without-rest.ensures.less
 
 pub loop-rest-preserved : goal.loop-rest-preserved
 loop-rest-preserved c =
-    let here = turn (call (goal.at.loop-rest-preserved c).After-struct_known-1) in
-    let a = (start here).args in
-    let loop = here.before.before.loop in (
-      here.least.result + 1,
-      advance-turn {F = by_number a.card.now a.places.now a.cell a.set} (passed here) (start here).pre.0 (below here)
-          (turned (call (goal.at.loop-rest-preserved c).After-struct_known-1)) c.if-cell-total.false,
-      walk-next loop.inv.2 here.least.ensures (call (goal.at.loop-rest-preserved c).After-struct_known-1).before.before.before.before.without.ensures,
+    let here = (goal.at.loop-rest-preserved c).After-least-p in
+    let a = c.args in
+    let loop = c.loop-rest in (
+      c.least-p.result + 1,
+      advance-turn {F = by_number a.card.now a.places.now a.cell a.set} (passed here) c.requires.0 (below here)
+          (turned (goal.at.loop-rest-preserved c).After-by_rule_over-total) c.if-cell-total.false,
+      walk-next loop.invariant.2 c.least-p.ensures c.without-rest.ensures,
     )
 
 pub shape_of-chart : goal.shape_of-chart

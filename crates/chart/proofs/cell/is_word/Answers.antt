@@ -6,11 +6,9 @@ use Rattle.chart.proofs.cell.is_word.Goals as goal
 pub returns-then-left-a : goal.returns-then-left-a
 returns-then-left-a c =
     let args = c.args in
-    let word = c.rule-1.given in
-    other-left args.rule word.0.0 word.0.1.0 args.a args.words word.1 c.if-left-a.true
+    other-left args.rule c.in-Word.left c.in-Word.word args.a args.words c.in-Word.is c.if-left-a.true
 
 pub returns-else-left-a : goal.returns-else-left-a
 returns-else-left-a c =
     let args = c.args in
-    let word = c.rule-1.given in
-    own-left args.rule word.0.0 word.0.1.0 args.a args.words word.1 c.if-left-a.false c.has.ensures
+    own-left args.rule c.in-Word.left c.in-Word.word args.a args.words c.in-Word.is c.if-left-a.false c.has.ensures
