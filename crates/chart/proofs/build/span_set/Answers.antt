@@ -12,7 +12,7 @@ returns-then-j-i-eq1 c =
       record {
         of_words = λ _. c.of_words.ensures;
         of_splits = λ p k a b. absurd (omega (arith, a, b, word));
-        met = met-word word c.meet-none.ensures.0;
+        met = met-word word c.meet_none.ensures.0;
       },
-      c.meet-none.ensures.1,
+      c.meet_none.ensures.1,
     )

@@ -3,7 +3,6 @@
 use Prim.Native.Nat.{◌+◌, ◌-◌, ◌/◌, ◌≤◌, ◌<◌}
 use native.Mathlib.Omega.{arith}
 use mathlib.Core.Path.{◌≡◌, sym, ◌∙◌, ap, subst}
-use mathlib.Core.Logic.{⊎_elim}
 use lib.ListN.{length, set}
 use Rattle.records.specs.Room.{foot_there, foot_from, number_there}
 use Rattle.chart.specs.Cell.{Finished}
@@ -11,7 +10,7 @@ use Rattle.steps.proofs.StepLaws.{foot-fits, record-there}
 use Rattle.records.proofs.RoomLaws.{number-there}
 use Rattle.records.proofs.TableLaws.{number-within}
 use Rattle.chart.proofs.FinishLaws.{found-bare, found-foot, finish-start, finish-turn, finish-end}
-use Rattle.chart.proofs.cell.finish.Goals.{In-loop-m}
+use Rattle.chart.proofs.cell.finish.Goals.{In-loop-m, then-foot-eq0, else-foot-eq0}
 use Rattle.chart.proofs.cell.finish.Goals as goal
 
 -- The byte of a number that was read stands among the marks.
@@ -61,10 +60,10 @@ loop-m-preserved c =
       finish-turn c.args.chart.now c.args.cell.base loop.invariant.0 loop.invariant.2
           (inside (goal.at.loop-m-preserved c).In-loop-m)
           (c.unmark.ensures ∙ ap (λ k. set loop.marks (k / 8) 0) c.number_at-number.ensures)
-          (⊎_elim
-          (λ w. w.1 ∙ found-bare foot.result φ m loop.bare read w.0.taken)
-          (λ w. w.1 ∙ found-foot foot.result φ m loop.bare read w.0.left)
-          c.if-foot-eq0.branch),
+          (elim c.if-foot-eq0.branch [
+            | then-foot-eq0 w ↦ w.bare-is ∙ found-bare foot.result φ m loop.bare read w.if-foot-eq0.true
+            | else-foot-eq0 w ↦ w.bare-is ∙ found-foot foot.result φ m loop.bare read w.if-foot-eq0.false
+          ]),
     )
 
 pub shape_of-marks : goal.shape_of-marks

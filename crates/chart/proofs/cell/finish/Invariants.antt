@@ -15,7 +15,7 @@ abbrev pub invariant-loop-m : goal.invariant-loop-m
 invariant-loop-m l =
     (l.cell.base ≤ l.m)
     × (l.m ≤ l.count)
-    × Finished l.chart l.cell.base l.m l.initial.marks l.marks (record { from = l.cell.base; to = l.m; l.bare = l.bare })
+    × Finished l.chart l.cell.base l.m l.initial.marks l.marks (record { from = l.cell.base; to = l.m; bare = l.bare })
 
 abbrev pub decreases-loop-m : goal.decreases-loop-m
 decreases-loop-m l = l.count - l.m
