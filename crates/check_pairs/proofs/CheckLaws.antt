@@ -13,7 +13,7 @@ use Rattle.grammar.specs.Plan.{PlanStep}
 use Rattle.layout.specs.Refusals.{unless}
 use Rattle.layout.specs.Card.{grammar_of, card_number}
 use Rattle.layout.specs.Steps.{steps_of}
-use Rattle.layout.specs.Answers.{input_number, words_in, line_test, plan_passes, check_number, plan_pairs, pairs_after}
+use Rattle.layout.specs.Answers.{words_in, line_test, plan_passes, check_number, plan_pairs, pairs_after}
 use Rattle.layout.proofs.CardLaws.{card-one-sided}
 use Rattle.layout.proofs.RefusalLaws.{accepts, holding, failing, decides-first}
 use Rattle.layout.proofs.Accepting.{AcceptedLine, input-of-card, check-of-input, check-of-plan}

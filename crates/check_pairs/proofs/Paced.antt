@@ -1,6 +1,6 @@
 -- The takes that wait, back over a plan that passes: as many as the goals' stacks have indices, so never more than words, and never none
 -- where a give is met. By induction on the plan, with the goals that the machine has there.
-use Prim.Native.Nat.{ℕ, suc, ◌+◌, ◌-◌, ◌≤◌, ◌<◌}
+use Prim.Native.Nat.{ℕ, suc, ◌≤◌, ◌<◌}
 use native.Mathlib.Omega.{arith}
 use mathlib.Core.Path.{◌≡◌, refl, ◌∙◌, ap}
 use mathlib.Core.Bool.{Bool, true, false, ◌&&◌, false≢true}

@@ -1,6 +1,6 @@
 -- What Pairs answers and leaves in its room, from the inputs alone. On a refusal there are no pairs: the count is 0 and the room as it was.
 use Rattle.std.specs.Prelude.{ℕ, ◌≡◌, List, length}
-use Rattle.layout.specs.Answers.{PairsAnswer, plan_pairs, pairs_within, pairs_answer, pairs_after}
+use Rattle.layout.specs.Answers.{plan_pairs, pairs_within, pairs_answer, pairs_after}
 use Rattle.layout.specs.Steps.{steps_of}
 use Rattle.check_pairs.specs.declared.Paired.{Paired}
 

@@ -1,10 +1,9 @@
 -- One step of the code is one step of the model, whatever goals the arrays show: at each way that the code refuses the model is
 -- stuck, by the test that refuses, and where the code goes on the model replaces the first goal.
 use Prim.Native.Nat.{ℕ, zero, suc, ◌+◌, ◌-◌, ◌≤◌, ◌<◌}
-use native.Mathlib.Nat.{add-zero}
 use native.Mathlib.Omega.{arith}
 use mathlib.Core.Path.{◌≡◌, refl, sym, ◌∙◌, ap, subst}
-use mathlib.Core.Bool.{Bool, true, false, ◌&&◌}
+use mathlib.Core.Bool.{Bool, true, false}
 use mathlib.Core.List.{List, [], ◌∷◌, ◌++◌, map}
 use mathlib.Core.Option.{Option, none, some}
 use lib.Dec.{eqb, ltb}
@@ -12,15 +11,14 @@ use lib.ListN.{length, get_or, get_elem?, length-append}
 use borrow.Author.Tests.{eq-eqb, ne_eqb, ltb-true}
 use Rattle.grammar.specs.Rewriting.{Rule, Lexical, Spine, Action, Take, Keep, Give}
 use Rattle.places.specs.Places.{word_test}
-use Rattle.grammar.specs.Plan.{PlanStep, plan_step}
+use Rattle.grammar.specs.Plan.{plan_step}
 use Rattle.layout.specs.Bytes.{counted}
 use Rattle.layout.specs.Card.{production, production_count, grammar_of}
-use Rattle.goals.specs.Goals.{Goal, goal, Standing, stuck, standing, top_index, action_fits, fits, replaced, turn_to, turn, next}
+use Rattle.goals.specs.Goals.{Goal, goal, stuck, standing, top_index, action_fits, fits, replaced, turn, next}
 use Rattle.goals.specs.Shown.{tops, names_of, indices_of, arrays, Shows, action_of, CanTake, ShowsAt, Replaced, FirstGoal, in_set, fits_top, step_from, Replayed}
 use Rattle.goals.specs.declared.replay.Stand.{Stand}
 use Rattle.goals.specs.declared.replay.StepBytes.{StepBytes}
 use Rattle.goals.specs.declared.replay.Top.{Top}
-use Rattle.goals.specs.declared.replay.Turn.{Turn}
 use Rattle.goals.specs.declared.replay.Turn.TheVariants.{Stuck, To}
 use Rattle.layout.proofs.TestLaws.{both}
 use Rattle.goals.proofs.GoalsTest.{pair_fits}

@@ -1,6 +1,6 @@
 -- The machine on goals passes exactly the leftmost derivations, where every rule is a word or has one side: so it is the plan test.
 -- What passes solves each goal, by induction on the plan; and a yield, as a tree of steps, passes from any goals behind it.
-use Prim.Native.Nat.{ℕ, zero, suc, ◌-◌, ◌<◌}
+use Prim.Native.Nat.{ℕ, suc, ◌-◌, ◌<◌}
 use native.Mathlib.Omega.{arith}
 use mathlib.Core.Path.{◌≡◌, refl, sym, ◌∙◌, ap}
 use mathlib.Core.Bool.{Bool, true, false, ◌&&◌, false≢true}
@@ -10,15 +10,15 @@ use lib.Dec.{eqb, ltb}
 use lib.ListN.{length, get_elem?}
 use borrow.Author.Tests.{eqb-true, ltb-true, lt-ltb}
 use Rattle.grammar.specs.Lists.{Stands}
-use Rattle.grammar.specs.Rewriting.{Rule, Lexical, Spine, Action, Take, Keep, Give, Acts, takes, keeps, gives, Symbol, word, nonterminal, sides, Replaces, lexical, spine, OneSide, is_word, is_first, is_last, OneSided}
+use Rattle.grammar.specs.Rewriting.{Rule, Lexical, Spine, Action, Take, Keep, Give, Acts, takes, keeps, gives, Symbol, word, nonterminal, sides, lexical, spine, OneSide, is_word, is_first, is_last, OneSided}
 use Rattle.grammar.specs.Input.{Holds}
-use Rattle.grammar.specs.Plan.{PlanStep, plan_step, production_in, first_of, others_of, Yields, nothing, reads, replaces, LeftmostDerivation, passes}
+use Rattle.grammar.specs.Plan.{PlanStep, plan_step, first_of, others_of, Yields, nothing, reads, replaces, LeftmostDerivation, passes}
 use Rattle.grammar.proofs.ListLaws.{eqb-self}
 use Rattle.grammar.proofs.StandsLaws.{stands-get_elem, get_elem-stands}
 use Rattle.grammar.proofs.PlanTest.{passes-sound, passes-complete}
 use Rattle.grammar.proofs.PlanSize.{stack-depth, yields-longer}
 use Rattle.layout.proofs.TestLaws.{both}
-use Rattle.goals.specs.Goals.{Goal, goal, Standing, stuck, standing, top_index, action_fits, depth_after, stack_after, dependent_span, split_fits, fits, replaced, turn_to, turn, all_reached, next, goals_run, goals_pass}
+use Rattle.goals.specs.Goals.{Goal, goal, Standing, stuck, standing, top_index, action_fits, depth_after, stack_after, dependent_span, split_fits, fits, replaced, turn_to, turn, goals_run, goals_pass}
 
 pub no-depth : (s : List ℕ) → length s ≡ 0 → s ≡ []
 no-depth [] e = refl

@@ -1,19 +1,18 @@
 -- The goals tile the line from the present place to its end, and each stack is less deep than its goal's stretch is long. So the
 -- goals and all their indices together are no more than the places left; a step keeps this, by the cases of its rule.
-use Prim.Native.Nat.{ℕ, zero, suc, ◌+◌, ◌-◌, ◌≤◌, ◌<◌}
+use Prim.Native.Nat.{ℕ, ◌+◌, ◌≤◌, ◌<◌}
 use native.Mathlib.Omega.{arith}
-use mathlib.Core.Path.{◌≡◌, refl, sym, ◌∙◌, ap}
-use mathlib.Core.Bool.{Bool, true, false, ◌&&◌, false≢true}
-use mathlib.Core.List.{List, [], ◌∷◌, ◌++◌}
+use mathlib.Core.Path.{◌≡◌, refl}
+use mathlib.Core.Bool.{Bool, true, false, ◌&&◌}
+use mathlib.Core.List.{List, [], ◌∷◌}
 use mathlib.Core.Option.{Option, none, some}
-use lib.Dec.{eqb, ltb}
+use lib.Dec.{eqb}
 use lib.ListN.{length, get_elem?, length-append}
 use Rattle.grammar.specs.Rewriting.{Rule, Lexical, Spine, Action, Take, Keep, Give}
 use Rattle.grammar.specs.Plan.{PlanStep, plan_step, production_in}
-use Rattle.goals.specs.Goals.{Goal, goal, Standing, stuck, standing, top_index, action_fits, depth_after, stack_after, dependent_span, fits, replaced, turn_to, turn, next, Tiled, reached, tiled}
+use Rattle.goals.specs.Goals.{Goal, goal, Standing, stuck, standing, top_index, depth_after, stack_after, fits, replaced, turn_to, turn, next, Tiled, reached, tiled}
 use Rattle.goals.specs.Shown.{indices_of}
-use Rattle.layout.proofs.TestLaws.{both}
-use Rattle.goals.proofs.GoalsTest.{word_fits, pair_fits}
+use Rattle.goals.proofs.GoalsTest.{pair_fits}
 
 abbrev pub TiledAt : ℕ → Standing → Type 0
 TiledAt n stuck = Unit

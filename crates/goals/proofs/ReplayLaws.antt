@@ -1,23 +1,22 @@
 -- The loop over a plan's bytes: the arrays show where the model stands, and the rest of the bytes passes from there exactly when all of
 -- them pass from the start. Each turn takes four bytes off the rest and one step off the plan that they write.
-use Prim.Native.Nat.{ℕ, zero, suc, ◌+◌, ◌-◌, ◌≤◌, ◌<◌}
+use Prim.Native.Nat.{ℕ, suc, ◌+◌, ◌-◌, ◌≤◌, ◌<◌}
 use native.Mathlib.Numerals.{add-one, add-two, add-three, add-four}
 use native.Mathlib.Omega.{arith}
 use mathlib.Core.Path.{◌≡◌, refl, sym, ◌∙◌, ap, subst}
-use mathlib.Core.Bool.{Bool, true, false}
+use mathlib.Core.Bool.{Bool, false}
 use mathlib.Core.List.{List, [], ◌∷◌, ◌++◌}
 use mathlib.Core.Option.{Option, none, some}
 use lib.Dec.{eqb}
-use lib.ListN.{length, drop, get_or, set, replicate, get_elem?, length-append, length-drop, drop_of_length-le}
+use lib.ListN.{length, drop, get_or, set, replicate, length-append, length-drop, drop_of_length-le}
 use lib.Seq.{drop-cons}
 use borrow.Author.Tests.{eq-eqb, ne_eqb}
 use Rattle.grammar.specs.Rewriting.{Rule}
 use Rattle.places.specs.Places.{word_test}
-use Rattle.grammar.specs.Plan.{PlanStep, plan_step}
-use Rattle.layout.specs.Bytes.{byte_at}
+use Rattle.grammar.specs.Plan.{PlanStep}
 use Rattle.layout.specs.Card.{grammar_of}
 use Rattle.layout.specs.Steps.{and_step, steps_of}
-use Rattle.goals.specs.Goals.{Goal, goal, Standing, stuck, standing, all_reached, next, goals_run, goals_start, replay_from, Tiled, reached, tiled}
+use Rattle.goals.specs.Goals.{Goal, goal, Standing, stuck, standing, all_reached, next, goals_run, goals_start, replay_from, Tiled}
 use Rattle.goals.specs.Shown.{tops, names_of, indices_of, arrays, Shows, ShowsAt, Within, step_from, StepAt, Tells, Replayed}
 use Rattle.goals.specs.declared.replay.Stand.{Stand}
 use Rattle.goals.specs.declared.replay.StepBytes.{StepBytes}

@@ -4,15 +4,15 @@ use Prim.Native.Nat.{ℕ, zero, suc, ◌+◌, ◌-◌, ◌≤◌, ◌<◌}
 use native.Mathlib.Numerals.{add-one, add-two}
 use native.Mathlib.Omega.{arith}
 use mathlib.Core.Path.{◌≡◌, refl, sym, ◌∙◌, ap, ap₂, subst}
-use mathlib.Core.Bool.{Bool, true, false, false≢true}
+use mathlib.Core.Bool.{Bool, true, false≢true}
 use mathlib.Core.List.{List, [], ◌∷◌, ◌++◌, tail}
 use lib.ListN.{length, get_or, set, length-set}
 use lib.Seq.{get_or-set_same, get_or-set_other}
 use Rattle.grammar.specs.Rewriting.{Rule, Lexical, Spine, Action, Take, Keep, Give}
-use Rattle.goals.specs.Goals.{Goal, goal, Standing, stuck, standing, top_index, action_fits, stack_after, fits, replaced}
+use Rattle.goals.specs.Goals.{Goal, goal, standing, top_index, action_fits, stack_after, fits}
 use Rattle.goals.specs.declared.replay.Stand.{Stand}
 use Rattle.goals.proofs.GoalsTest.{no-depth, word_fits, pair_fits}
-use Rattle.goals.specs.Shown.{tops, names_of, ends_of, indices_of, bases_of, Arrays, arrays, entries, Shows, Acted, Opened, stand_of, ShowsAt, Replaced}
+use Rattle.goals.specs.Shown.{tops, indices_of, arrays, entries, Shows, Acted, Opened, stand_of, ShowsAt, Replaced}
 
 pub tops-length : (xs : List ℕ) (n : ℕ) → length (tops xs n) ≡ n
 tops-length xs zero = refl

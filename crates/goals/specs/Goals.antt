@@ -1,7 +1,7 @@
 -- Document 01, "The plan", as Check replays it: a machine on goals. A goal is a nonterminal that is still to be replaced, with its
 -- stack and the end of its stretch; it starts where the goal before it ends, and the first one at the present place. So the goals
 -- tile the line from the present place to its end.
-use Rattle.std.specs.Prelude.{ℕ, zero, suc, ◌+◌, ◌-◌, ◌<◌, Bool, true, false, ◌&&◌, eqb, ltb, length}
+use Rattle.std.specs.Prelude.{ℕ, suc, ◌+◌, ◌-◌, ◌<◌, Bool, true, false, ◌&&◌, eqb, ltb, length}
 use mathlib.Core.List.{List, [], ◌∷◌, tail}
 use Rattle.std.proofs.Math.Option.{Option, none, some}
 use Rattle.std.proofs.Math.ListN.{get_elem?}

@@ -2,7 +2,7 @@
 -- `bases` have an entry a goal; `stack` has the indices of all stacks, of which a goal owns those from its base to the next one's.
 use Rattle.std.specs.Prelude.{ℕ, zero, suc, ◌+◌, ◌-◌, ◌≤◌, ◌<◌, ◌≡◌, Bool, true, List, [], ◌∷◌, ◌++◌, length, get_or, set}
 use Rattle.grammar.specs.Rewriting.{Rule, Lexical, Spine, Action, Take, Keep, Give}
-use Rattle.goals.specs.Goals.{Goal, goal, Standing, stuck, standing, top_index, action_fits, stack_after, split_fits, fits, replaced, next, Tiled}
+use Rattle.goals.specs.Goals.{Goal, goal, Standing, stuck, standing, top_index, action_fits, stack_after, split_fits, fits, replaced, next}
 use Rattle.bits.specs.Bits.{holds_bit}
 use Rattle.places.specs.Places.{word_test}
 use Rattle.grammar.specs.Plan.{PlanStep, plan_step}

@@ -5,7 +5,7 @@ use native.Mathlib.Nat.{zero-add, add-zero, suc-add, add-suc, add_assoc}
 use native.Mathlib.Numerals.{add-one}
 use native.Mathlib.Omega.{arith}
 use mathlib.Core.Path.{◌≡◌, refl, sym, ◌∙◌, ap, ap₂}
-use mathlib.Core.Bool.{Bool, true, false, cond, false≢true}
+use mathlib.Core.Bool.{Bool, cond, false≢true}
 use mathlib.Core.List.{List, [], ◌∷◌, ◌++◌, map, append_assoc, append-nil}
 use mathlib.Core.Option.{some}
 use lib.ListN.{length, get_or, get_elem?, take, drop, length-append, length-drop, get_or-append}

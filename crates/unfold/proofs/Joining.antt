@@ -22,6 +22,10 @@ abbrev pub Opens : List ℕ → List ℕ → List ℕ → Rest → List ℕ → 
 Opens card chart stack whole stack₁ plan here plan₁ left =
     Opened card chart stack whole stack₁ left × StepWritten chart whole.position left plan here plan₁
 
+pub opening : {card chart stack stack₁ plan plan₁ : List ℕ} {here : ℕ} {whole : Rest} {left : Left} → Opened card chart stack whole stack₁ left
+    → StepWritten chart whole.position left plan here plan₁ → Opens card chart stack whole stack₁ plan here plan₁ left
+opening opened written = (opened, written)
+
 -- The rest of a spine has the same base, and below it the stack stays.
 record Follows (stack : List ℕ) (whole : Rest) (stack₁ : List ℕ) (rest : Rest) : Type 0 where
   base : rest.base ≡ whole.base

@@ -1,6 +1,6 @@
 -- Document 01, "The plan": what unfolding promises. The room's records are those of a chart, whatever chart it is. The line is read
 -- through a test: `at i w`, is the word at place i word number w?
-use Rattle.std.specs.Prelude.{ℕ, ◌+◌, ◌*◌, ◌≤◌, ◌<◌, ◌≡◌, Bool, cond, List, [], ◌++◌, map, length, drop}
+use Rattle.std.specs.Prelude.{ℕ, ◌*◌, ◌≤◌, ◌<◌, ◌≡◌, Bool, cond, List, [], ◌++◌, map, length, drop}
 use Rattle.grammar.specs.Lists.{Stands}
 use Rattle.grammar.specs.Input.{Holds}
 use Rattle.grammar.specs.Items.{bare}

@@ -1,9 +1,8 @@
 -- The invariant: no record from m on is the start's; the measure is m, which falls at each turn.
 -- At the end m is 0, so no record is.
-use Rattle.unfold.proofs.Starting.{Passed, passed_none, passed-more, answered, found_at, found_nowhere}
+use Rattle.unfold.proofs.Starting.{passed_none, passed-more, answered, found_at, found_nowhere}
 use mathlib.Core.Bool.{true, false}
 use native.Mathlib.Omega.{arith}
-use borrow.Author.Rules.{rules}
 use Rattle.unfold.proofs.find_start.Goals as goal
 
 pub loop-m-init : goal.loop-m-init
@@ -15,12 +14,12 @@ is_start-requires c = omega (arith, c.requires, c.loop-m.invariant.below)
 pub returns-then-is_start : goal.returns-then-is_start
 returns-then-is_start c =
     found_at _ _ _ (omega (arith, c.loop-m.invariant.below, c.loop-m-test.true))
-    (answered _ _ _ true c.is_start.ensures c.if-is_start.true)
+    (answered c.args.chart.now _ _ true c.is_start.ensures c.if-is_start.true)
 
 pub loop-m-preserved : goal.loop-m-preserved
 loop-m-preserved c =
     passed-more c.loop-m.invariant c.loop-m-test.true
-    (answered _ _ _ false c.is_start.ensures c.if-is_start.false)
+    (answered c.args.chart.now _ _ false c.is_start.ensures c.if-is_start.false)
 
 pub returns : goal.returns
 returns c = found_nowhere _ _ _ λ k h e. c.loop-m.invariant.others k (omega (arith, c.loop-m-test.false)) h e

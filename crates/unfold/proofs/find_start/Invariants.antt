@@ -1,7 +1,4 @@
-use Rattle.unfold.proofs.Starting.{Passed, passed_none, passed-more, answered, found_at, found_nowhere}
-use mathlib.Core.Bool.{true, false}
-use native.Mathlib.Omega.{arith}
-use borrow.Author.Rules.{rules}
+use Rattle.unfold.proofs.Starting.{Passed}
 use Rattle.unfold.proofs.find_start.Given as goal
 
 abbrev pub invariant-loop-m : goal.invariant-loop-m

@@ -2,7 +2,6 @@
 -- The laws of Starting.antt turn bytes into the item and back.
 use native.Mathlib.Omega.{arith}
 use Rattle.unfold.proofs.Starting.{start-name, start-index, start-from, start-to, start-there}
-use borrow.Author.Rules.{rules}
 use Rattle.unfold.proofs.is_start.Goals as goal
 
 pub returns-then-chart-at-ne0 : goal.returns-then-chart-at-ne0

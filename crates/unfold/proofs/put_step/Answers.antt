@@ -3,7 +3,6 @@
 use Rattle.layout.proofs.Writing.{wrote-four}
 use native.Mathlib.Omega.{arith}
 use lib.ListN.{length-set}
-use borrow.Author.Rules.{rules}
 use Rattle.unfold.proofs.put_step.Goals as goal
 
 pub bounds-plan-at-2 : goal.bounds-plan-at-2

@@ -4,7 +4,6 @@ use mathlib.Core.Path.{refl, ◌∙◌}
 use mathlib.Core.List.{[]}
 use Rattle.card.proofs.Accepted.{view-table}
 use Rattle.unfold.proofs.Whole.{start-ready, start-asked, start-planned}
-use borrow.Author.Rules.{rules}
 use Rattle.unfold.proofs.unfold.Goals as goal
 
 pub side-requires : goal.side-requires
@@ -14,4 +13,4 @@ side-requires c =
 pub returns : goal.returns
 returns c =
     let u = c.requires in
-    λ at held. start-planned (c.side.ensures.0 at _ [] (start-ready held u.inside u.whole))
+    λ at held. start-planned (c.side.ensures.unfolds at _ [] (start-ready held u.inside u.whole))

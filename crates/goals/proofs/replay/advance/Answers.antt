@@ -1,13 +1,10 @@
 -- Each way out is a law of the model's step, whatever goals the arrays show: it is stuck by the test that failed, or it replaces the first goal.
 -- What the tests on the way show is said once, at the place where each is passed.
--- There is a goal.
 use Prim.Native.Nat.{◌<◌}
 use mathlib.Core.Path.{◌≡◌, sym, ◌∙◌, ap}
 use mathlib.Core.Bool.{true}
 use native.Mathlib.Omega.{arith}
 use lib.ListN.{get_or}
-use borrow.Author.Rules.{rules}
-use borrow.Author.Tests.{not-true, not-false}
 use Rattle.layout.specs.Card.{production, production_count}
 use Rattle.card.specs.Productions.{rule_from}
 use Rattle.goals.specs.Shown.{fits_top}
@@ -15,6 +12,7 @@ use Rattle.goals.proofs.AdvanceLaws.{advanced-none, advanced-start, advanced-mis
 use Rattle.goals.proofs.replay.advance.Goals.{After-first_goal-top, After-production-production, After-wide, After-wide-2, After-wide-number, After-wide-split, Else-not-fits, Else-rules-number, Else-wide-place, Else-wide-top}
 use Rattle.goals.proofs.replay.advance.Goals as goal
 
+-- There is a goal.
 some : (c : After-first_goal-top) → c.args.stand.count ≡ 0 → ⊥
 some c = c.if-stand-eq0.false
 
@@ -30,7 +28,7 @@ there c = omega (arith, c.if-rules-number.false, c.wide-number.ensures.0, c.requ
 in-line : (c : After-first_goal-top) → c.first_goal-top.result.start < 24
 in-line c =
     let h = some c in
-    omega (arith, c.first_goal-top.ensures.start, start.requires.1.in_line (omega arith))
+    omega (arith, c.first_goal-top.ensures.start, c.requires.1.in_line (omega arith))
 
 meant : (c : After-production-production) → let a = c.args in
     rule_from c.production-production.result ≡ production a.card.now a.step.number
@@ -40,7 +38,7 @@ meant c = let a = c.args in
 fitting : (c : Else-not-fits) → let a = c.args in let g = c.first_goal-top in
     fits_top (rule_from c.production-production.result) (get_or a.places.now g.result.start 0) g.result
     c.wide-split.result ≡ true
-fitting c = sym c.fits2.ensures ∙ not-false _ c.if-not-fits.false-raw
+fitting c = sym c.fits.ensures ∙ c.if-not-fits.false
 
 pub returns-then-stand-eq0 : goal.returns-then-stand-eq0
 returns-then-stand-eq0 c = let a = c.args in
@@ -61,9 +59,9 @@ returns-then-wide-top c =
 
 pub returns-then-rules-number : goal.returns-then-rules-number
 returns-then-rules-number c =
-    let a = start.args in
+    let a = c.args in
     advanced-missing a.card.now a.places.now a.step a.names.now a.ends.now a.bases.now a.stack.now a.stand
-    (omega (arith, c.if-rules-number.true, c.wide-number.ensures.0, start.requires.0.counted))
+    (omega (arith, c.if-rules-number.true, c.wide-number.ensures.0, c.requires.0.counted))
 
 pub production-production-requires : goal.production-production-requires
 production-production-requires c =
@@ -78,37 +76,37 @@ pub offset_bounds-places-place : goal.offset_bounds-places-place
 offset_bounds-places-place c = omega (arith, in-line (goal.at.offset_bounds-places-place c).After-first_goal-top)
 
 pub bounds-places-place : goal.bounds-places-place
-bounds-places-place c = in-line (goal.at.bounds-places-place c).After-wide
+bounds-places-place c = in-line (goal.at.bounds-places-place c).After-first_goal-top
 
 pub fits-requires : goal.fits-requires
 fits-requires c =
-    (omega (arith, in-line (goal.at.fits-requires c).After-wide), omega (arith, c.first_goal-top.ensures.depth, start.requires.1.few_indices))
+    (omega (arith, in-line (goal.at.fits-requires c).After-first_goal-top), omega (arith, c.first_goal-top.ensures.depth, c.requires.1.few_indices))
 
 pub returns-then-not-fits : goal.returns-then-not-fits
 returns-then-not-fits c =
     let a = c.args in
     advanced-misfit a.card.now a.places.now a.step a.names.now a.ends.now a.bases.now a.stack.now a.stand
-    (some (goal.at.returns-then-not-fits c).After-wide) c.first_goal-top.result c.first_goal-top.ensures (rule_from c.production-production.result)
-    (there (goal.at.returns-then-not-fits c).After-production-production) (meant (goal.at.returns-then-not-fits c).After-wide-split) (same_start (goal.at.returns-then-not-fits c).After-wide-2) (same_end (goal.at.returns-then-not-fits c).After-wide-number)
-    c.wide-split.result c.wide-split.ensures.0 (sym c.fits2.ensures ∙ not-true _ c.if-not-fits.true-raw)
+    (some (goal.at.returns-then-not-fits c).After-first_goal-top) c.first_goal-top.result c.first_goal-top.ensures (rule_from c.production-production.result)
+    (there (goal.at.returns-then-not-fits c).Else-rules-number) (meant (goal.at.returns-then-not-fits c).After-production-production) (same_start (goal.at.returns-then-not-fits c).Else-wide-place) (same_end (goal.at.returns-then-not-fits c).Else-wide-top)
+    c.wide-split.result c.wide-split.ensures.0 (sym c.fits.ensures ∙ c.if-not-fits.true)
 
 pub replace-requires : goal.replace-requires
 replace-requires c =
-    let h = some (goal.at.replace-requires c).After-wide in
+    let h = some (goal.at.replace-requires c).After-first_goal-top in
     record {
       some = omega arith;
-      few = start.requires.1.few_goals;
-      low = start.requires.1.few_indices;
+      few = c.requires.1.few_goals;
+      low = c.requires.1.few_indices;
       takes =
           fits-take (rule_from c.production-production.result) _ c.first_goal-top.result c.wide-split.result
-          start.args.stand.top (fitting (goal.at.replace-requires c).Else-not-fits) (omega (arith, c.first_goal-top.ensures.depth));
+          c.args.stand.top (fitting (goal.at.replace-requires c).Else-not-fits) (omega (arith, c.first_goal-top.ensures.depth));
     }
 
 pub returns : goal.returns
 returns c =
     let a = c.args in
     advanced-fit a.card.now a.places.now a.step a.names.now a.ends.now a.bases.now a.stack.now a.stand
-    (some (goal.at.returns c).After-wide) c.first_goal-top.result c.first_goal-top.ensures (rule_from c.production-production.result)
-    (there (goal.at.returns c).After-production-production) (meant (goal.at.returns c).After-wide-split) (same_start (goal.at.returns c).After-wide-2) (same_end (goal.at.returns c).After-wide-number)
+    (some (goal.at.returns c).After-first_goal-top) c.first_goal-top.result c.first_goal-top.ensures (rule_from c.production-production.result)
+    (there (goal.at.returns c).Else-rules-number) (meant (goal.at.returns c).After-production-production) (same_start (goal.at.returns c).Else-wide-place) (same_end (goal.at.returns c).Else-wide-top)
     c.wide-split.result c.wide-split.ensures.0 _ _ _ _ c.replace.result
     (fitting (goal.at.returns c).Else-not-fits) c.replace.ensures

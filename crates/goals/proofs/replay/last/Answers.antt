@@ -1,6 +1,5 @@
 -- The last entry in use is the first that the array shows.
 -- The index is in place, since there are at most 24 indices.
-use borrow.Author.Rules.{rules}
 use Rattle.goals.proofs.ShownLaws.{top-index}
 use Rattle.goals.proofs.replay.last.Goals as goal
 

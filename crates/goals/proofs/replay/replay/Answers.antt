@@ -1,14 +1,12 @@
 -- The invariant: the arrays show where the model stands, and the bytes that are left pass from there exactly when all pass from the start.
 -- The measure is the number of bytes left. Each need is a law of that invariant.
-use Prim.Native.Nat.{◌+◌, ◌-◌, ◌≤◌}
+use Prim.Native.Nat.{◌+◌, ◌≤◌}
 use native.Mathlib.Omega.{arith}
 use mathlib.Core.Path.{◌∙◌}
-use borrow.Author.Rules.{rules}
 use lib.ListN.{length}
 use Rattle.layout.proofs.TestLaws.{same_answer, tests}
 use Rattle.card.proofs.Accepted.{view-table}
-use Rattle.goals.specs.Shown.{RulesOf}
-use Rattle.goals.proofs.ReplayLaws.{Replaying, replay-start, replay-within, replay-short, replay-over, replay-stuck, replay-on}
+use Rattle.goals.proofs.ReplayLaws.{replay-start, replay-within, replay-short, replay-over, replay-stuck, replay-on}
 use Rattle.goals.proofs.replay.replay.Goals.{Else-plan-at-lt4}
 use Rattle.goals.proofs.replay.replay.Goals as goal
 
@@ -49,7 +47,7 @@ returns-in_default c =
     let step = c.step_at-step in
     replay-stuck a.card.now a.places.now a.n a.plan.now l.names l.ends l.bases l.stack l.stand l.at l.invariant.0
     step.result (four-left (goal.at.returns-in_default c).Else-plan-at-lt4) step.ensures _ _ _ _ c.advance.result
-    c.advance.ensures c.enum_told-1.given.1
+    c.advance.ensures c.in_default.is
 
 pub overflow_add-at : goal.overflow_add-at
 overflow_add-at c = omega (arith, four-left (goal.at.overflow_add-at c).Else-plan-at-lt4, c.well_formed.1.1.1.0.0)
@@ -61,7 +59,7 @@ loop-at-preserved c =
     let step = c.step_at-step in (
       replay-on a.card.now a.places.now a.n a.plan.now l.names l.ends l.bases l.stack l.stand l.at l.invariant.0
           step.result (four-left (goal.at.loop-at-preserved c).Else-plan-at-lt4) step.ensures _ _ _ _ c.advance.result
-          c.advance.ensures _ c.next-1.given.1,
+          c.advance.ensures _ c.in-To.is,
       l.invariant.1,
     )
 

@@ -1,12 +1,7 @@
-use Prim.Native.Nat.{◌+◌, ◌-◌, ◌≤◌}
-use native.Mathlib.Omega.{arith}
-use mathlib.Core.Path.{◌∙◌}
-use borrow.Author.Rules.{rules}
+use Prim.Native.Nat.{◌-◌}
 use lib.ListN.{length}
-use Rattle.layout.proofs.TestLaws.{same_answer, tests}
-use Rattle.card.proofs.Accepted.{view-table}
 use Rattle.goals.specs.Shown.{RulesOf}
-use Rattle.goals.proofs.ReplayLaws.{Replaying, replay-start, replay-within, replay-short, replay-over, replay-stuck, replay-on}
+use Rattle.goals.proofs.ReplayLaws.{Replaying}
 use Rattle.goals.proofs.replay.replay.Given as goal
 
 abbrev pub invariant-loop-at : goal.invariant-loop-at

@@ -3,7 +3,6 @@
 -- What each test that passed shows.
 use native.Mathlib.Omega.{arith}
 use mathlib.Core.Path.{◌≡◌, ◌∙◌}
-use borrow.Author.Rules.{rules}
 use Rattle.goals.proofs.FitsLaws.{word-name, word-stack, word_split, word-long, word_same}
 use Rattle.goals.proofs.replay.word_fits.Goals.{Else-left-top, Else-split-top, Else-top-ne0}
 use Rattle.goals.proofs.replay.word_fits.Goals as goal

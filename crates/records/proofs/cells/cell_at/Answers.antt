@@ -5,7 +5,6 @@ use native.Mathlib.Nat.{mul-le-mul}
 use native.Mathlib.Omega.{arith}
 use mathlib.Core.Path.{ap}
 use Rattle.records.proofs.TableLaws.{spans-more, cell_below}
-use borrow.Author.Rules.{rules}
 use Rattle.records.proofs.cells.cell_at.Goals.{After-span_at}
 use Rattle.records.proofs.cells.cell_at.Goals as goal
 

@@ -6,7 +6,6 @@ use lib.Dec.{eqb}
 use borrow.Author.Tests.{eq-eqb, ne_eqb}
 use Rattle.records.specs.Cells.{cover_in, reaches, covered_in}
 use Rattle.records.proofs.CoverLaws.{reaches-none, reaches_here, reaches-there, left-as-is, noted-already, noted-now}
-use borrow.Author.Rules.{rules}
 use Rattle.records.proofs.cells.is_covered.Goals.{After-wide16}
 use Rattle.records.proofs.cells.is_covered.Goals as goal
 

@@ -1,7 +1,6 @@
 -- `cells::put_range` meets its contract: three stores, none of which changes the length.
 use native.Mathlib.Omega.{arith}
 use lib.ListN.{length-set}
-use borrow.Author.Rules.{rules}
 use Rattle.records.proofs.cells.put_range.Goals as goal
 
 pub bounds-cells-at-2 : goal.bounds-cells-at-2

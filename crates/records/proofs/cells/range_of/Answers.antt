@@ -1,6 +1,5 @@
 -- `cells::range_of` meets its contract: the three numbers are read one by one.
 use Rattle.records.proofs.CellsLaws.{same-range}
-use borrow.Author.Rules.{rules}
 use Rattle.records.proofs.cells.range_of.Goals as goal
 
 pub returns : goal.returns

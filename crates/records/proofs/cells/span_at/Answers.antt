@@ -3,7 +3,6 @@ use Prim.Native.Nat.{ℕ, zero, suc, ◌*◌, ◌-◌, ◌/◌, ◌≤◌}
 use native.Mathlib.Nat.{mul-le-mul, mul_comm}
 use native.Mathlib.Omega.{arith}
 use mathlib.Core.Path.{◌≡◌}
-use borrow.Author.Rules.{rules}
 use Rattle.records.specs.Cells.{spans}
 use Rattle.records.proofs.TableLaws.{spans-twice, span_below}
 use Rattle.records.proofs.cells.span_at.Goals.{Start}

@@ -3,7 +3,6 @@ use Prim.Native.Nat.{◌/◌}
 use lib.Bits.{or_comm}
 use lib.ListN.{get_or}
 use Rattle.records.proofs.MarkLaws.{mark_set}
-use borrow.Author.Rules.{rules}
 use Rattle.records.proofs.marks.mark.Goals as goal
 
 pub returns : goal.returns

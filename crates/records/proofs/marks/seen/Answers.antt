@@ -1,6 +1,5 @@
 -- `marks::seen` meets its contract: the byte and the bit are those of the number.
 use Rattle.records.proofs.MarkLaws.{mark-seen}
-use borrow.Author.Rules.{rules}
 use Rattle.records.proofs.marks.seen.Goals as goal
 
 pub returns : goal.returns

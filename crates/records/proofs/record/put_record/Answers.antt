@@ -10,7 +10,6 @@ use Rattle.grammar.specs.ItemList.{item}
 use Rattle.grammar.specs.Chart.{recorded}
 use Rattle.layout.specs.Bytes.{low_byte, high_byte}
 use Rattle.records.specs.Room.{as_foot, with_number}
-use borrow.Author.Rules.{rules}
 use Rattle.records.proofs.record.put_record.Goals as goal
 
 as_bytes : (A γ i j B p q d x y z k : ℕ) {l h l' h' l'' h'' l''' h''' : ℕ} → (γ ≡ 0 → (B ≡ 255) × (p ≡ 0) × (q ≡ 0))

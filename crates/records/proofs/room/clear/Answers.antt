@@ -1,8 +1,7 @@
 -- `room::clear` meets its contract. The loop's invariant: the first k bytes are 0.
-use Prim.Native.Nat.{◌≤◌, ◌-◌}
 use native.Mathlib.Omega.{arith}
-use mathlib.Core.Path.{◌≡◌, refl}
-use lib.ListN.{length, take, replicate, length-set}
+use mathlib.Core.Path.{refl}
+use lib.ListN.{length-set}
 use Rattle.records.proofs.ClearLaws.{zeros-more, zeros-all}
 use Rattle.records.proofs.room.clear.Goals as goal
 

@@ -1,8 +1,6 @@
 use Prim.Native.Nat.{◌≤◌, ◌-◌}
-use native.Mathlib.Omega.{arith}
-use mathlib.Core.Path.{◌≡◌, refl}
-use lib.ListN.{length, take, replicate, length-set}
-use Rattle.records.proofs.ClearLaws.{zeros-more, zeros-all}
+use mathlib.Core.Path.{◌≡◌}
+use lib.ListN.{length, take, replicate}
 use Rattle.records.proofs.room.clear.Given as goal
 
 abbrev pub invariant-loop-k : goal.invariant-loop-k

@@ -1,10 +1,6 @@
-use Prim.Native.Nat.{ℕ, ◌+◌, ◌-◌, ◌*◌, ◌≤◌}
-use native.Mathlib.Nat.{add_comm, mul_comm}
-use native.Mathlib.Omega.{arith}
-use mathlib.Core.Path.{◌≡◌, refl, ◌∙◌, ap}
-use lib.ListN.{length, length-set}
+use Prim.Native.Nat.{◌-◌, ◌≤◌}
+use mathlib.Core.Path.{◌≡◌}
 use Rattle.records.specs.Room.{numbers_cleared}
-use Rattle.records.proofs.NumbersCleared.{cleared-length, cleared_more}
 use Rattle.records.proofs.room.clear_numbers.Given as goal
 
 abbrev pub invariant-loop-m : goal.invariant-loop-m

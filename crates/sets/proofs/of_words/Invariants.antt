@@ -1,0 +1,12 @@
+use Prim.Native.Nat.{◌<◌}
+use native.Mathlib.Omega.{arith}
+use mathlib.Core.Path.{refl}
+use Rattle.layout.specs.Card.{max_words}
+use Rattle.sets.proofs.ClassLaws.{WordsSoFar, words-none, word_small, words_more, words-end}
+use Rattle.sets.proofs.of_words.Given as goal
+
+abbrev pub invariant-loop-rest : goal.invariant-loop-rest
+invariant-loop-rest l = WordsSoFar l.sets l.words l.rest l.productions
+
+abbrev pub decreases-loop-rest : goal.decreases-loop-rest
+decreases-loop-rest l = l.rest
