@@ -1,6 +1,7 @@
 -- `card_number`: each return has the first test of the cascade that fails, with those before it passed.
 -- The tests of the tables need room for them, which the length's test has shown.
 -- The card, where each test has passed, and what the tests have shown.
+use mathlib.Core.Path.{sym}
 use native.Mathlib.Omega.{arith}
 use mathlib.Core.Bool.{true}
 use mathlib.Core.List.{List}
@@ -23,16 +24,16 @@ abbrev card-3 : Else-not-lengths_fit → List ℕ
 card-3 c = card-2 (goal.at.Else-not-lengths_fit c).Else-not-counts_fit
 
 marked : (c : Else-not-mark_fits) → mark_fits (card-1 c) ≡ true
-marked c = passed c.mark_fits.ensures c.if-not-mark_fits.false-raw
+marked c = sym c.mark_fits.ensures ∙ c.if-not-mark_fits.false
 
 counted : (c : Else-not-counts_fit) → counts_fit (card-2 c) ≡ true
-counted c = passed (c.counts_fit.ensures ∙ counts_same c.of-view.ensures) c.if-not-counts_fit.false-raw
+counted c = sym (c.counts_fit.ensures ∙ counts_same c.of-view.ensures) ∙ c.if-not-counts_fit.false
 
 measured : (c : Else-not-lengths_fit) → lengths_fit (card-3 c) ≡ true
-measured c = passed c.lengths_fit.ensures c.if-not-lengths_fit.false-raw
+measured c = sym c.lengths_fit.ensures ∙ c.if-not-lengths_fit.false
 
 fitted : (c : Else-not-fit) → entries_fit (card-3 (goal.at.Else-not-fit c).Else-not-lengths_fit) ≡ true
-fitted c = passed c.entries_fit-fit.ensures c.if-not-fit.false-raw
+fitted c = sym c.entries_fit-fit.ensures ∙ c.if-not-fit.false
 
 tabled : (c : Else-not-table) → productions_fit (card-3 (goal.at.Else-not-table c).Else-not-lengths_fit) ≡ true
 tabled c = passed c.check-table.ensures.fit c.if-not-table.false
@@ -43,12 +44,12 @@ named c = let e = c.check-table.ensures.live in rw (tabled c) at e
 
 pub returns-then-not-mark_fits : goal.returns-then-not-mark_fits
 returns-then-not-mark_fits c =
-    number-11 c.args.card.now (refused c.mark_fits.ensures c.if-not-mark_fits.true-raw)
+    number-11 c.args.card.now (sym c.mark_fits.ensures ∙ c.if-not-mark_fits.true)
 
 pub returns-then-not-counts_fit : goal.returns-then-not-counts_fit
 returns-then-not-counts_fit c =
     number-12 (card-1 (goal.at.returns-then-not-counts_fit c).Else-not-mark_fits) (marked (goal.at.returns-then-not-counts_fit c).Else-not-mark_fits)
-    (refused (c.counts_fit.ensures ∙ counts_same c.of-view.ensures) c.if-not-counts_fit.true-raw)
+    (sym (c.counts_fit.ensures ∙ counts_same c.of-view.ensures) ∙ c.if-not-counts_fit.true)
 
 pub lengths_fit-requires : goal.lengths_fit-requires
 lengths_fit-requires c =
@@ -56,7 +57,7 @@ lengths_fit-requires c =
 
 pub returns-then-not-lengths_fit : goal.returns-then-not-lengths_fit
 returns-then-not-lengths_fit c =
-    number-13 (card-2 (goal.at.returns-then-not-lengths_fit c).Else-not-counts_fit) (marked (goal.at.returns-then-not-lengths_fit c).Else-not-mark_fits) (counted (goal.at.returns-then-not-lengths_fit c).Else-not-counts_fit) (refused c.lengths_fit.ensures c.if-not-lengths_fit.true-raw)
+    number-13 (card-2 (goal.at.returns-then-not-lengths_fit c).Else-not-counts_fit) (marked (goal.at.returns-then-not-lengths_fit c).Else-not-mark_fits) (counted (goal.at.returns-then-not-lengths_fit c).Else-not-counts_fit) (sym c.lengths_fit.ensures ∙ c.if-not-lengths_fit.true)
 
 pub entries_fit-fit-requires : goal.entries_fit-fit-requires
 entries_fit-fit-requires c =
@@ -70,7 +71,7 @@ check-table-requires c =
 pub returns-then-not-fit : goal.returns-then-not-fit
 returns-then-not-fit c =
     number-14 (card-3 (goal.at.returns-then-not-fit c).Else-not-lengths_fit) (marked (goal.at.returns-then-not-fit c).Else-not-mark_fits) (counted (goal.at.returns-then-not-fit c).Else-not-counts_fit) (measured (goal.at.returns-then-not-fit c).Else-not-lengths_fit)
-    (refused c.entries_fit-fit.ensures c.if-not-fit.true-raw)
+    (sym c.entries_fit-fit.ensures ∙ c.if-not-fit.true)
 
 pub returns-then-not-table : goal.returns-then-not-table
 returns-then-not-table c =

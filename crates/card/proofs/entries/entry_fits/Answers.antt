@@ -1,13 +1,14 @@
 -- `entries::entry_fits`: the length byte, the spelling and the padding are tested in turn, the last two as parts of the card.
 -- The laws of `entry-parts` take those parts to the definition's; a length within its limits keeps them inside the entry.
 -- The number read is the entry's length byte; past its test it is within its limits.
+use mathlib.Core.Path.{sym}
 use Prim.Native.Nat.{◌≤◌}
 use native.Mathlib.Omega.{arith}
 use mathlib.Core.Bool.{true}
 use mathlib.Core.Path.{◌≡◌, ◌∙◌}
 use Rattle.layout.specs.Bytes.{byte_at}
 use Rattle.layout.specs.Card.{entry_at, most_letters, within}
-use Rattle.layout.proofs.TestLaws.{refused, passed, limits}
+use Rattle.layout.proofs.TestLaws.{limits}
 use Rattle.card.proofs.Accepted.{view-entry}
 use Rattle.card.proofs.Laws.{entry-size, entry-spelling, entry-padding}
 use Rattle.card.proofs.entries.entry_fits.Goals.{After-wide-n, Else-not-within}
@@ -23,7 +24,7 @@ place c =
     c.entry_at-at.ensures ∙ view-entry c.requires.0 c.args.v
 
 size : (c : Else-not-within) → within 1 most_letters c.wide-n.result ≡ true
-size c = passed c.within.ensures c.if-not-within.false-raw
+size c = sym c.within.ensures ∙ c.if-not-within.false
 
 most : (c : Else-not-within) → c.wide-n.result ≤ most_letters
 most c = (limits 1 most_letters c.wide-n.result (size c)).1
@@ -33,7 +34,7 @@ returns-then-not-within c =
     let a = c.args in
     let entry = c.entry_at-at in
     entry-size a.card.now a.v entry.result c.wide-n.result (place (goal.at.returns-then-not-within c).After-wide-n) (length-byte (goal.at.returns-then-not-within c).After-wide-n)
-    (refused c.within.ensures c.if-not-within.true-raw)
+    (sym c.within.ensures ∙ c.if-not-within.true)
 
 pub slice_bounds-all_letters-end : goal.slice_bounds-all_letters-end
 slice_bounds-all_letters-end c = let short = most c in omega arith
@@ -44,7 +45,7 @@ returns-then-not-all_letters c =
     let entry = c.entry_at-at in
     entry-spelling a.card.now a.v entry.result c.wide-n.result (place (goal.at.returns-then-not-all_letters c).After-wide-n) (length-byte (goal.at.returns-then-not-all_letters c).After-wide-n)
     (size (goal.at.returns-then-not-all_letters c).Else-not-within)
-    (refused c.all_letters.ensures c.if-not-all_letters.true-raw)
+    (sym c.all_letters.ensures ∙ c.if-not-all_letters.true)
 
 pub slice_bounds-all_zero-count : goal.slice_bounds-all_zero-count
 slice_bounds-all_zero-count c = let short = most (goal.at.slice_bounds-all_zero-count c).Else-not-within in omega arith
@@ -59,4 +60,4 @@ returns c =
     c.all_zero.ensures
     ∙ entry-padding a.card.now a.v entry.result c.wide-n.result (place (goal.at.returns c).After-wide-n) (length-byte (goal.at.returns c).After-wide-n)
     (size (goal.at.returns c).Else-not-within)
-    (passed c.all_letters.ensures c.if-not-all_letters.false-raw)
+    (sym c.all_letters.ensures ∙ c.if-not-all_letters.false)

@@ -1,11 +1,11 @@
 -- `productions::check`: every production passed by the loop fits, and its names are in the two sets.
 -- So at the end the sets decide, and a return on the way shows a production that does not fit.
+use mathlib.Core.Path.{sym}
 use Prim.Native.Nat.{◌<◌, ◌+◌, ◌*◌}
 use native.Mathlib.Omega.{arith}
 use mathlib.Core.Path.{◌≡◌, ◌∙◌, ap}
 use borrow.Author.Rules.{rules}
 use Rattle.layout.specs.Card.{production_at, production_length}
-use Rattle.layout.proofs.TestLaws.{refused, passed}
 use Rattle.layout.proofs.Accepting.{counts-within}
 use Rattle.card.proofs.Accepted.{view-table}
 use Rattle.card.proofs.FieldLaws.{fields-small}
@@ -34,7 +34,7 @@ fields_at-f-requires c =
 pub returns-then-not-production_fits : goal.returns-then-not-production_fits
 returns-then-not-production_fits c =
     one-unfit c.loop-m.m (omega arith) (place (goal.at.returns-then-not-production_fits c).After-production_at) c.fields_at-f.ensures
-    (refused c.production_fits.ensures c.if-not-production_fits.true-raw)
+    (sym c.production_fits.ensures ∙ c.if-not-production_fits.true)
 
 -- Its names are small enough for a set.
 small : (c : Else-not-production_fits) → let f = c.fields_at-f.result in
@@ -42,7 +42,7 @@ small : (c : Else-not-production_fits) → let f = c.fields_at-f.result in
 small c =
     let card = c.args.card.now in
     fields-small card (counts-within card c.requires.1).few_nonterminals c.fields_at-f.result
-    (passed c.production_fits.ensures c.if-not-production_fits.false-raw)
+    (sym c.production_fits.ensures ∙ c.if-not-production_fits.false)
 
 pub with_names-names-requires : goal.with_names-names-requires
 with_names-names-requires c = small c
@@ -51,7 +51,7 @@ pub loop-m-preserved : goal.loop-m-preserved
 loop-m-preserved c = (
   search rules,
   gathered-more c.loop-m.m c.loop-m.invariant.1 (place (goal.at.loop-m-preserved c).After-production_at) c.fields_at-f.ensures
-      (passed c.production_fits.ensures c.if-not-production_fits.false-raw) c.with_names-names.ensures,
+      (sym c.production_fits.ensures ∙ c.if-not-production_fits.false) c.with_names-names.ensures,
 )
 
 pub returns : goal.returns

@@ -1,7 +1,6 @@
 -- Letters stand from `at` up to `end`, run after run; the first other byte ends them, or the line.
 use native.Mathlib.Omega.{arith}
 use mathlib.Core.Path.{sym, ◌∙◌}
-use Rattle.layout.proofs.TestLaws.{unless-true, unless-false}
 use Rattle.octets.proofs.LetterLaws.{letters-more, letters-join}
 use Rattle.line.proofs.LetterLaws.{past-here, past-line}
 use Rattle.line.proofs.cut.word_end.Goals as goal
@@ -14,7 +13,7 @@ loop-end-init c = c.past_small-end.ensures
 
 pub returns-then-not-is_letter : goal.returns-then-not-is_letter
 returns-then-not-is_letter c =
-    past-here c.loop-end.invariant (sym c.is_letter.ensures ∙ unless-true _ λ e. cc (e, c.if-not-is_letter.true-raw))
+    past-here c.loop-end.invariant (sym c.is_letter.ensures ∙ c.if-not-is_letter.true)
 
 pub past_small-end-requires-in-loop-end : goal.past_small-end-requires-in-loop-end
 past_small-end-requires-in-loop-end c = omega (arith, c.loop-end-test.true)
@@ -26,7 +25,7 @@ pub loop-end-preserved : goal.loop-end-preserved
 loop-end-preserved c =
     letters-join
     (letters-more c.loop-end.invariant c.loop-end-test.true
-    (sym c.is_letter.ensures ∙ unless-false _ λ e. cc (e, c.if-not-is_letter.false-raw)))
+    (sym c.is_letter.ensures ∙ c.if-not-is_letter.false))
     c.past_small-end-in-loop-end.ensures
 
 pub returns : goal.returns

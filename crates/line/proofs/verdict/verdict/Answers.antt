@@ -1,6 +1,5 @@
 -- Each test that fails is the condition of its refusal, with those before it known to pass.
 use native.Mathlib.Omega.{arith}
-use borrow.Author.Tests.{not-true, not-false}
 use Rattle.line.proofs.RefusalLaws.{none-verdict, many-verdict, unknown-verdict, known-verdict}
 use Rattle.line.proofs.verdict.verdict.Goals as goal
 
@@ -13,8 +12,8 @@ returns-then-count-gt-MOST_WORDS c = many-verdict (omega (arith, c.if-count-gt-M
 pub returns-then-not-known : goal.returns-then-not-known
 returns-then-not-known c =
     unknown-verdict (omega (arith, c.if-count-eq0.false)) (omega (arith, c.if-count-gt-MOST_WORDS.false))
-    (not-true _ c.if-not-known.true-raw) c.refused-then-not-known.ensures
+    c.if-not-known.true c.refused-then-not-known.ensures
 
 pub returns : goal.returns
 returns c =
-    known-verdict (omega (arith, c.if-count-eq0.false)) (omega (arith, c.if-count-gt-MOST_WORDS.false)) (not-false _ c.if-not-known.false-raw)
+    known-verdict (omega (arith, c.if-count-eq0.false)) (omega (arith, c.if-count-gt-MOST_WORDS.false)) c.if-not-known.false

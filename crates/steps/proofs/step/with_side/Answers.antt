@@ -1,0 +1,27 @@
+-- `with_side` adds what the action gives with the side's bare item, whose position the table has: there is at most one.
+use mathlib.Core.Path.{◌≡◌, sym}
+use Rattle.chart_model.specs.Build.{bare_places}
+use Rattle.records.specs.Cells.{bare_in}
+use Rattle.records.specs.Filling.{begun_with}
+use Rattle.steps.proofs.StepLaws.{added_none, added-as}
+use Rattle.steps.proofs.StepCandidates.{range-bares, no_bare, one-bare}
+use Rattle.steps.proofs.StepCover.{advanced-kept, advanced-as}
+use Rattle.steps.proofs.step.with_side.Goals.{After-range_of-range}
+use Rattle.steps.proofs.step.with_side.Goals as goal
+
+-- What was read from the table: the position of the side's bare item.
+found : (c : After-range_of-range) → let side = c.args.met.side in
+    bare_places (begun_with c.args.cell c.args.chart.now) side.symbol side.from side.to ≡ bare_in c.range_of-range.result.bare
+found c =
+    let a = c.args in
+    range-bares a.chart.now a.cell.base c.requires.0.indexed c.requires.1.side c.cell_at-number.ensures.0 c.range_of-range.ensures
+
+pub returns-then-bare-eq0 : goal.returns-then-bare-eq0
+returns-then-bare-eq0 c =
+    let h = c.requires.0 in
+    advanced-kept h
+    (added-as (sym (no_bare _ _ (found (goal.at.returns-then-bare-eq0 c).After-range_of-range) c.if-bare-eq0.true)) (added_none h.works))
+
+pub returns : goal.returns
+returns c =
+    advanced-as (sym (one-bare _ _ (found (goal.at.returns c).After-range_of-range) c.if-bare-eq0.false)) c.by_action.ensures
