@@ -9,7 +9,7 @@ use Rattle.layout.specs.Card.{production, production_count}
 use Rattle.card.specs.Productions.{rule_from}
 use Rattle.goals.specs.Shown.{fits_top}
 use Rattle.goals.proofs.AdvanceLaws.{advanced-none, advanced-start, advanced-missing, advanced-end, advanced-misfit, advanced-fit, fits-take}
-use Rattle.goals.proofs.replay.advance.Goals.{After-first_goal-top, After-production-production, After-wide, After-wide-2, After-wide-number, After-wide-split, Else-not-fits, Else-rules-number, Else-wide-place, Else-wide-top}
+use Rattle.goals.proofs.replay.advance.Goals.{After-first_goal-top, After-production-production, Else-not-fits, Else-rules-number, Else-wide-place, Else-wide-top}
 use Rattle.goals.proofs.replay.advance.Goals as goal
 
 -- There is a goal.

@@ -1,0 +1,18 @@
+-- `build::span_set` meets its contract: one word has no splits, and more words have what `meet` finds.
+use Prim.Native.Nat.{◌+◌}
+use native.Mathlib.Omega.{arith}
+use mathlib.Core.Path.{◌≡◌}
+use borrow.Author.Rules.{rules}
+use Rattle.sets.proofs.MeetLaws.{met-word}
+use Rattle.chart.proofs.build.span_set.Goals as goal
+
+pub returns-then-j-i-eq1 : goal.returns-then-j-i-eq1
+returns-then-j-i-eq1 c =
+    let word : c.args.j ≡ c.args.i + 1 = omega (arith, c.if-j-i-eq1.true, c.requires.1) in (
+      record {
+        of_words = λ _. c.of_words.ensures;
+        of_splits = λ p k a b. absurd (omega (arith, a, b, word));
+        met = met-word word c.meet_none.ensures.0;
+      },
+      c.meet_none.ensures.1,
+    )
