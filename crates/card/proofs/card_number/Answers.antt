@@ -75,8 +75,10 @@ returns-then-not-fit c =
 
 pub returns-then-not-table : goal.returns-then-not-table
 returns-then-not-table c =
-    number-16 (card-3 (goal.at.returns-then-not-table c).Else-not-lengths_fit) (marked (goal.at.returns-then-not-table c).Else-not-mark_fits) (counted (goal.at.returns-then-not-table c).Else-not-counts_fit) (measured (goal.at.returns-then-not-table c).Else-not-lengths_fit)
-    (fitted (goal.at.returns-then-not-table c).Else-not-fit) (refused c.check-table.ensures.fit c.if-not-table.true)
+    let card = c.args.card.now in
+    let fitted : entries_fit card ≡ true = cc in
+    number-16 card (marked (goal.at.returns-then-not-table c).Else-not-mark_fits) (counted (goal.at.returns-then-not-table c).Else-not-counts_fit) (measured (goal.at.returns-then-not-table c).Else-not-lengths_fit)
+    fitted (refused c.check-table.ensures.fit c.if-not-table.true)
 
 pub returns-then-not-table-2 : goal.returns-then-not-table-2
 returns-then-not-table-2 c =

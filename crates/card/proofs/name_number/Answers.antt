@@ -14,7 +14,7 @@ pub returns-then-words-word : goal.returns-then-words-word
 returns-then-words-word c =
     let a = c.args in
     let card = c.card_number-number in
-    name-unknown a.card.now a.word card.result card.ensures (omega (arith, c.if-number-ne0.false)) c.of-words.ensures.words
+    name-unknown a.card.now a.word card.result card.ensures (omega arith) c.of-words.ensures.words
     (omega (arith, c.if-words-word.true))
 
 pub returns : goal.returns

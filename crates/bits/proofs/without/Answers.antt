@@ -2,24 +2,16 @@
 use Prim.Native.Nat.{ℕ, ◌-◌}
 use native.Mathlib.Omega.{arith}
 use mathlib.Core.Path.{ap}
-use borrow.Author.Rules.{rules}
 use Rattle.bits.proofs.BitLaws.{one_shifted}
 use Rattle.bits.proofs.BitSets.{bit-size, without-there}
-use Rattle.bits.proofs.without.Statement.{statement}
-use Rattle.bits.proofs.without.Tie as tie
+use Rattle.bits.proofs.without.Goals as goal
 
-shl-result : tie.Need-overflow_shl-result
-shl-result c = search rules
-
-sub-result : tie.Need-overflow_sub-result
-sub-result c =
+pub overflow_sub-result : goal.overflow_sub-result
+overflow_sub-result c =
     let a = c.args in
     omega (arith, one_shifted a.k 64 c.requires.0, bit-size a.k a.set c.requires.1)
 
-returns : tie.Need-returns
+pub returns : goal.returns
 returns c =
     let a = c.args in
     without-there a.set a.k _ c.requires.1 (ap (λ (x : ℕ). a.set - x) (one_shifted a.k 64 c.requires.0))
-
-pub without_spec : {M : Type 1} → statement M
-without_spec = tie.close (tie.spec shl-result sub-result returns)
