@@ -1,6 +1,6 @@
 -- What the sets of spans say of a chart. A cell adds records of its own alone, so after it only the sets of its span change, and they gain the
 -- productions for its name; the records of a span are no elements at its splits, so what meets there is known before the span is filled.
-use Prim.Native.Nat.{ℕ, ◌+◌, ◌≤◌, ◌<◌}
+use Prim.Native.Nat.{ℕ, ◌≤◌, ◌<◌}
 use native.Mathlib.Omega.{arith}
 use native.Mathlib.Decide.{ℕ_discrete}
 use mathlib.Core.Path.{◌≡◌, refl, sym, ap, subst, subst₂, ◌∙◌}

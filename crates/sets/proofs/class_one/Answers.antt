@@ -1,7 +1,6 @@
 -- `class_one` meets its contract: each arm's places lie in the table, and the stores of an arm are those of the law for its kind of rule.
 use native.Mathlib.Omega.{arith}
 use Rattle.sets.proofs.ClassLaws.{word-named, first-named, last-named, word-joined, first-joined, last-joined}
-use borrow.Author.Rules.{rules}
 use Rattle.sets.proofs.class_one.Goals as goal
 
 pub put-requires : goal.put-requires

@@ -1,17 +1,14 @@
 -- `classify` meets its contract. The loop's invariant: the sets have what the first p rules ask for, and the rest of the table is as it was.
 -- A turn is one rule more.
-use Prim.Native.Nat.{ℕ, ◌≤◌, ◌<◌, ◌-◌}
+use Prim.Native.Nat.{ℕ, ◌<◌}
 use native.Mathlib.Omega.{arith}
 use mathlib.Core.Path.{◌≡◌, refl, ◌∙◌, ap}
 use mathlib.Core.List.{List}
 use lib.ListN.{length, get_or}
-use borrow.Author.Rules.{rules}
 use Rattle.layout.specs.Card.{production_count}
 use Rattle.card.proofs.Accepted.{view-table}
 use Rattle.bits.proofs.BitLaws.{zero-at}
-use Rattle.sets.specs.Places.{OnlyClasses}
-use Rattle.sets.specs.Classes.{Classified}
-use Rattle.sets.proofs.CardRules.{first_rules, few-rules, rule-named}
+use Rattle.sets.proofs.CardRules.{few-rules, rule-named}
 use Rattle.sets.proofs.ClassLaws.{classified-none, classified-more}
 use Rattle.sets.proofs.classify.Goals.{In-loop-p, Start}
 use Rattle.sets.proofs.classify.Goals as goal
@@ -24,12 +21,11 @@ pub production_table-table-requires : goal.production_table-table-requires
 production_table-table-requires c = (c.of-view.ensures.short_header, c.of-view.ensures.few_words)
 
 pub loop-p-init : goal.loop-p-init
-loop-p-init c =
-    (
-      omega arith,
-      (refl, λ at h. refl),
-      classified-none _ c.requires.1 (λ k. ap (λ (l : List ℕ). get_or l k 0) c.requires.2 ∙ zero-at (length c.args.sets.now) k),
-    )
+loop-p-init c = (
+  omega arith,
+  (refl, λ at h. refl),
+  classified-none _ c.requires.1 (λ k. ap (λ (l : List ℕ). get_or l k 0) c.requires.2 ∙ zero-at (length c.args.sets.now) k),
+)
 
 pub production-rule-requires : goal.production-rule-requires
 production-rule-requires c =

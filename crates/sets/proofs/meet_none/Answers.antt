@@ -3,7 +3,6 @@ use native.Mathlib.Omega.{arith}
 use lib.Seq.{get_or-set_same}
 use Rattle.sets.specs.Places.{splits_at}
 use Rattle.sets.proofs.MeetLaws.{meeting-set}
-use borrow.Author.Rules.{rules}
 use Rattle.sets.proofs.meet_none.Goals as goal
 
 pub returns : goal.returns

@@ -1,8 +1,8 @@
 -- `next_left` meets its contract. The loop's invariant: the nonterminals from `from` on and below a have no production in the set.
-use Prim.Native.Nat.{ℕ, ◌≤◌, ◌<◌, ◌-◌}
+use Prim.Native.Nat.{ℕ}
 use native.Mathlib.Omega.{arith}
 use native.Mathlib.Decide.{ℕ_discrete}
-use mathlib.Core.Path.{◌≡◌, ◌∙◌, ap}
+use mathlib.Core.Path.{◌∙◌, ap}
 use lib.Bits.{bit_and}
 use lib.ListN.{get_or}
 use Rattle.sets.proofs.next_left.Goals as goal

@@ -4,7 +4,7 @@ use Prim.Native.Nat.{◌<◌}
 use native.Mathlib.Omega.{arith}
 use mathlib.Core.Path.{refl}
 use Rattle.layout.specs.Card.{max_words}
-use Rattle.sets.proofs.ClassLaws.{WordsSoFar, words-none, word_small, words_more, words-end}
+use Rattle.sets.proofs.ClassLaws.{words-none, word_small, words_more, words-end}
 use Rattle.sets.proofs.of_words.Goals.{After-least-w}
 use Rattle.sets.proofs.of_words.Goals as goal
 

@@ -1,8 +1,4 @@
-use Prim.Native.Nat.{◌<◌}
-use native.Mathlib.Omega.{arith}
-use mathlib.Core.Path.{refl}
-use Rattle.layout.specs.Card.{max_words}
-use Rattle.sets.proofs.ClassLaws.{WordsSoFar, words-none, word_small, words_more, words-end}
+use Rattle.sets.proofs.ClassLaws.{WordsSoFar}
 use Rattle.sets.proofs.of_words.Given as goal
 
 abbrev pub invariant-loop-rest : goal.invariant-loop-rest

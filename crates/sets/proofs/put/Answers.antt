@@ -4,7 +4,6 @@ use mathlib.Core.Path.{ap}
 use lib.Bits.{bit_or}
 use lib.ListN.{get_or, set}
 use Rattle.bits.proofs.BitLaws.{one_shifted}
-use borrow.Author.Rules.{rules}
 use Rattle.sets.proofs.put.Goals as goal
 
 pub returns : goal.returns

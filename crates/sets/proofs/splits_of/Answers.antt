@@ -8,7 +8,7 @@ use lib.Bits.{bit_and, bit_or}
 use lib.ListN.{get_or}
 use Rattle.bits.proofs.BitLaws.{one_shifted, bit-clear}
 use Rattle.sets.specs.Places.{bounds, meeting_at}
-use Rattle.sets.proofs.MeetLaws.{ServedSoFar, served-none, served-more, served-same, like-there, served-end}
+use Rattle.sets.proofs.MeetLaws.{served-none, served-more, served-same, like-there, served-end}
 use Rattle.sets.proofs.splits_of.Goals.{After-least-k}
 use Rattle.sets.proofs.splits_of.Goals as goal
 

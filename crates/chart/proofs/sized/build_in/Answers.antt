@@ -6,25 +6,22 @@ use borrow.Author.Rules.{rules}
 use Rattle.layout.specs.Card.{max_nonterminals, nonterminal_count}
 use Rattle.chart.specs.Built.{Sized}
 use Rattle.chart.proofs.CardFits.{few-names}
-use Rattle.chart.proofs.sized.build_in.Goals.{After-of-symbols, Start}
+use Rattle.chart.proofs.sized.build_in.Goals.{After-of-symbols}
 use Rattle.chart.proofs.sized.build_in.Goals as goal
 
 module _ (c : After-of-symbols) where
-  abbrev start : tie.Start
-  start = (goal.at.After-of-symbols c).Start
-
   abbrev names : ℕ
-  names = nonterminal_count start.args.card.now
+  names = nonterminal_count c.args.card.now
 
   all : names ≤ max_nonterminals
-  all = few-names start.args.card.now start.pre.0.accepted
+  all = few-names c.args.card.now c.requires.0.accepted
 
   few : c.of-symbols.result.nonterminals ≤ 6 → names ≤ 6
   few h = omega (arith, c.of-symbols.ensures.nonterminals)
 
-  sized : (m M : ℕ) → start.args.n ≤ m → names ≤ M
-      → Sized m M start.args.card.now start.args.places.now start.args.n start.args.room start.args.chart.now
-  sized m M h k = record { buildable = start.pre.0; lent = start.pre.1; words = h; names = k }
+  sized : (m M : ℕ) → c.args.n ≤ m → names ≤ M
+      → Sized m M c.args.card.now c.args.places.now c.args.n c.args.room c.args.chart.now
+  sized m M h k = record { buildable = c.requires.0; lent = c.requires.1; words = h; names = k }
 
 pub build_4_few-requires : goal.build_4_few-requires
 build_4_few-requires c =
@@ -52,8 +49,8 @@ build_16_few-requires c =
 
 pub build_24_few-requires : goal.build_24_few-requires
 build_24_few-requires c =
-    sized (goal.at.build_24_few-requires c).After-of-symbols 24 6 (start (goal.at.build_24_few-requires c).After-of-symbols).requires.0.short (few (goal.at.build_24_few-requires c).After-of-symbols c.if-symbols-le-FEW-5.true)
+    sized (goal.at.build_24_few-requires c).After-of-symbols 24 6 c.requires.0.short (few (goal.at.build_24_few-requires c).After-of-symbols c.if-symbols-le-FEW-5.true)
 
 pub build_24-requires : goal.build_24-requires
 build_24-requires c =
-    sized (goal.at.build_24-requires c).After-of-symbols 24 16 (start (goal.at.build_24-requires c).After-of-symbols).requires.0.short (all (goal.at.build_24-requires c).After-of-symbols)
+    sized (goal.at.build_24-requires c).After-of-symbols 24 16 c.requires.0.short (all (goal.at.build_24-requires c).After-of-symbols)

@@ -1,15 +1,10 @@
 -- `sized::build_with` meets its contract: once the sets by the card are noted, tables of zeros are where the model starts.
 -- The nonterminals that the code counts are the card's.
 use native.Mathlib.Omega.{arith}
-use borrow.Author.Rules.{rules}
 use Rattle.layout.specs.Card.{grammar_of}
 use Rattle.places.specs.Places.{word_test}
 use Rattle.chart.proofs.BuiltExact.{tables_start, closed-as}
-use Rattle.chart.proofs.sized.build_with.Goals.{After-classify, Start}
 use Rattle.chart.proofs.sized.build_with.Goals as goal
-
-abbrev start : After-classify → tie.Start
-start c = (goal.at.After-classify c).Start
 
 pub classify-requires : goal.classify-requires
 classify-requires c =
@@ -18,18 +13,19 @@ classify-requires c =
 
 pub close_all-requires : goal.close_all-requires
 close_all-requires c =
-    let s = start (goal.at.close_all-requires c).After-classify in
+    let a = c.args in
+    let p = c.requires in
     let of = c.of.ensures in
     record {
-      accepted = s.pre.0.accepted;
+      accepted = p.0.accepted;
       names = of.nonterminals;
       between = rw of.nonterminals
-          (tables_start s.args.card.now s.args.places.now s.args.n s.args.room s.pre.0 s.pre.1 s.pre.2
+          (tables_start a.card.now a.places.now a.n a.room p.0 p.1 p.2
           c.classify.ensures.0 c.classify.ensures.1);
     }
 
 pub returns : goal.returns
 returns c =
-    let a = (start (goal.at.returns c).After-classify).args in
+    let a = c.args in
     closed-as a.room a.n (grammar_of a.card.now) (word_test a.places.now) c.of.ensures.nonterminals
     c.close_all.ensures
