@@ -16,7 +16,7 @@ use Rattle.grammar.specs.Chart.{Record}
 use Rattle.grammar.proofs.StandsLaws.{some_same, none-some}
 use Rattle.chart_model.specs.Build.{fold_up, places as positions, fill_cell, close_span, close_back, close_end}
 use Rattle.chart_model.proofs.BuildLaws.{fold_up-more}
-use Rattle.chart_model.proofs.FillModel.{same, grown-length, cell-grown, span-grown, end-grown, all_grown, places-other, fold-none}
+use Rattle.chart_model.proofs.FillModel.{grown-length, cell-grown, span-grown, end-grown, all_grown, places-other, fold-none}
 use Rattle.records.specs.Room.{chart_in, numbered_chart}
 use Rattle.records.proofs.RoomLaws.{chart-length}
 use Rattle.chart.specs.Fill.{Between, Filled, Closed}

@@ -170,6 +170,7 @@ module _ {card line old_chart old_output new_chart new_output : List ℕ} {numbe
     as_read : (plans : List (List PlanStep)) → s.plans ≡ plans → own ≡ 0 → EachRead card (line ∷ []) plans
         → course (read_number card m) (line ∷ []) ≡ record { read = line ∷ []; failing = none }
         → AsLine card line old_chart old_output new_chart new_output plan_room' pair_room number at count
+    as_read [] is z each e = elim each [ ]
     as_read (plan ∷ (other ∷ plans)) is z each e = absurd (omega (arith, each-length each))
     as_read (plan ∷ []) is z (more r promise.none) e =
         let bytes = plan_bytes plan in

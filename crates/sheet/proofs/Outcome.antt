@@ -16,7 +16,7 @@ use Rattle.layout.specs.Card.{card_number, card_refusals}
 use Rattle.layout.specs.Answers.{HasDerivation}
 use Rattle.layout.proofs.RefusalLaws.{before-refuses, before-accepts}
 use Rattle.split.specs.Lines.{lines_of}
-use Rattle.sheet.specs.Sheet.{most_lines, sheet_number, read_number, Course, course, sheet_course, tried, ChartsAfter, output_after}
+use Rattle.sheet.specs.Sheet.{most_lines, sheet_number, read_number, Course, sheet_course, tried, ChartsAfter, output_after}
 use Rattle.sheet.specs.Sheet.{records_from, SheetAnswer, refused_at, records_within, sheet_answer}
 use Rattle.sheet.specs.Promise.{EachRead, line_at, Sheet}
 use Rattle.sheet.specs.Promise as promise

@@ -55,16 +55,16 @@ module _ {input : List ℕ} {at i : ℕ} (p : Passed input at i) (h : i < length
       let l : i - at < length (drop at input) = omega (arith, length-drop at input) in
       rw z (take-suc (drop at input) (i - at) 0 l ∙ rw (get_or-drop at input (i - at) 0, y))
 
-  pub passed-more : (get_or input i 0 ≡ newline → ⊥) → Passed input at (i + 1)
-  passed-more ne =
+  pub passed_more : (get_or input i 0 ≡ newline → ⊥) → Passed input at (i + 1)
+  passed_more ne =
       record {
         starts = omega (arith, p.starts);
         within = omega arith;
         before = p.before ∙ rw (cut, ne_eqb _ _ ne, longer) (front-more (take (i - at) (drop at input)) (get_or input i 0) (lines_of (drop (i + 1) input)));
       }
 
-  pub ended-there : get_or input i 0 ≡ newline → LineEnds input at i
-  ended-there e =
+  pub ended_there : get_or input i 0 ≡ newline → LineEnds input at i
+  ended_there e =
       record {
         starts = p.starts;
         within = p.within;
@@ -73,8 +73,8 @@ module _ {input : List ℕ} {at i : ℕ} (p : Passed input at i) (h : i < length
             ∙ rw (append-nil (take (i - at) (drop at input))));
       }
 
-pub ended-last : {input : List ℕ} {at i : ℕ} → Passed input at i → at < length input → length input ≤ i → LineEnds input at i
-ended-last {input} {at} {i} p s h =
+pub ended_last : {input : List ℕ} {at i : ℕ} → Passed input at i → at < length input → length input ≤ i → LineEnds input at i
+ended_last {input} {at} {i} p s h =
     let w = p.within in
     let all : length (drop at input) ≤ i - at = omega (arith, length-drop at input) in
     let l : length (take (i - at) (drop at input)) ≡ length input - at = rw (take_all (i - at) (drop at input)) (length-drop at input) in

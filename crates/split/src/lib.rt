@@ -5,6 +5,7 @@ ghost use Rattle.std.specs.Prelude.{◌≡◌, ◌<◌, leb, length};
 ghost use Rattle.split.specs.Lines.{lines_of, LineEnds};
 
 // Where the line that starts at a place ends: at the next hex 0A, or else at the end of the input.
+#[tactic(auto, using(crate::proofs::LineLaws::passed_more, crate::proofs::LineLaws::ended_there, crate::proofs::LineLaws::ended_last))]
 pub fn line_end(input: &[u8], at: usize) -> usize
     requires { at < length input.now }
     ensures { LineEnds input.now at result }
@@ -20,6 +21,7 @@ pub fn line_end(input: &[u8], at: usize) -> usize
 }
 
 // Has the input at most so many lines?
+#[tactic(auto, using(crate::proofs::LineLaws::too_many))]
 pub fn at_most(input: &[u8], most: usize) -> bool
     ensures { result ≡ leb (length (lines_of input.now)) most }
 {

@@ -1,6 +1,6 @@
 -- `build::close_all` meets its contract. The loop's invariant: the spans that end at e or before are closed as the model's fold closes them.
 -- The spans of the next end are still without records.
-use Prim.Native.Nat.{ℕ, ◌+◌, ◌-◌, ◌≤◌}
+use Prim.Native.Nat.{ℕ, ◌+◌}
 use native.Mathlib.Omega.{arith}
 use mathlib.Core.Option.{Option, some}
 use mathlib.Core.List.{List, []}

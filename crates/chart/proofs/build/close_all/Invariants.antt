@@ -1,17 +1,12 @@
-use Prim.Native.Nat.{ℕ, ◌+◌, ◌-◌, ◌≤◌}
-use native.Mathlib.Omega.{arith}
-use mathlib.Core.Option.{Option, some}
-use mathlib.Core.List.{List, []}
-use mathlib.Core.Path.{◌≡◌, refl, ◌∙◌}
+use Prim.Native.Nat.{◌-◌, ◌≤◌}
+use mathlib.Core.Option.{some}
+use mathlib.Core.List.{[]}
+use mathlib.Core.Path.{◌≡◌}
 use lib.ListN.{length}
-use Rattle.grammar.specs.Chart.{Record}
 use Rattle.layout.specs.Card.{grammar_of}
 use Rattle.places.specs.Places.{word_test}
 use Rattle.chart_model.specs.Build.{fold_up, close_end}
-use Rattle.chart_model.proofs.FillModel.{end_none}
 use Rattle.chart.specs.Fill.{FilledTo}
-use Rattle.chart.proofs.FillLaws.{state-some}
-use Rattle.chart.proofs.FillFolds.{filled_none, fresh-end, end-grows, fold-then, fold_over, fold_at, closed_all}
 use Rattle.chart.proofs.build.close_all.Given as goal
 
 abbrev pub invariant-loop-e : goal.invariant-loop-e

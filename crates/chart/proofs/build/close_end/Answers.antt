@@ -1,6 +1,6 @@
 -- `build::close_end` meets its contract. The loop's invariant: the spans of at most m words are closed as the model's fold closes them.
 -- Each span is still without records when its turn comes.
-use Prim.Native.Nat.{ℕ, suc, ◌+◌, ◌-◌, ◌≤◌}
+use Prim.Native.Nat.{ℕ, suc, ◌+◌, ◌-◌}
 use native.Mathlib.Omega.{arith}
 use mathlib.Core.Option.{Option, some}
 use mathlib.Core.List.{List}

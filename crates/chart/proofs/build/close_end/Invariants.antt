@@ -1,18 +1,12 @@
-use Prim.Native.Nat.{ℕ, suc, ◌+◌, ◌-◌, ◌≤◌}
-use native.Mathlib.Omega.{arith}
-use mathlib.Core.Option.{Option, some}
-use mathlib.Core.List.{List}
-use mathlib.Core.Path.{◌≡◌, refl, ◌∙◌}
+use Prim.Native.Nat.{◌+◌, ◌-◌, ◌≤◌}
+use mathlib.Core.Option.{some}
+use mathlib.Core.Path.{◌≡◌}
 use lib.ListN.{length}
-use Rattle.grammar.specs.Chart.{Record}
 use Rattle.layout.specs.Card.{grammar_of}
 use Rattle.places.specs.Places.{word_test}
 use Rattle.chart_model.specs.Build.{fold_up, close_back}
-use Rattle.chart_model.proofs.FillModel.{span_none}
 use Rattle.records.specs.Room.{chart_in}
 use Rattle.chart.specs.Fill.{FilledTo}
-use Rattle.chart.proofs.FillLaws.{state-some}
-use Rattle.chart.proofs.FillFolds.{filled_none, fresh-span, span-turn, span-grows, fold-then, fold_over, fold_at}
 use Rattle.chart.proofs.build.close_end.Given as goal
 
 abbrev pub invariant-loop-m : goal.invariant-loop-m

@@ -1,11 +1,10 @@
 -- `build::close_span` meets its contract. The loop's invariant: the cells of the nonterminals below a are filled as the model's fold fills
 -- them, and what meets at the splits is still noted. The nonterminals that are passed over have no candidates.
-use Prim.Native.Nat.{ℕ, ◌+◌, ◌-◌, ◌≤◌}
+use Prim.Native.Nat.{ℕ, ◌+◌, ◌-◌}
 use native.Mathlib.Omega.{arith}
 use mathlib.Core.Option.{Option, some}
 use mathlib.Core.List.{List}
-use mathlib.Core.Path.{◌≡◌, refl, ◌∙◌}
-use lib.ListN.{length}
+use mathlib.Core.Path.{refl, ◌∙◌}
 use Rattle.grammar.specs.Chart.{Record}
 use Rattle.layout.specs.Card.{grammar_of}
 use Rattle.places.specs.Places.{word_test}

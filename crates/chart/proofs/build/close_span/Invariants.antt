@@ -1,18 +1,12 @@
-use Prim.Native.Nat.{ℕ, ◌+◌, ◌-◌, ◌≤◌}
-use native.Mathlib.Omega.{arith}
-use mathlib.Core.Option.{Option, some}
-use mathlib.Core.List.{List}
-use mathlib.Core.Path.{◌≡◌, refl, ◌∙◌}
+use Prim.Native.Nat.{◌-◌, ◌≤◌}
+use mathlib.Core.Option.{some}
+use mathlib.Core.Path.{◌≡◌}
 use lib.ListN.{length}
-use Rattle.grammar.specs.Chart.{Record}
-use Rattle.layout.specs.Card.{grammar_of}
-use Rattle.places.specs.Places.{word_test}
 use Rattle.chart_model.specs.Build.{fold_up}
 use Rattle.records.specs.Room.{chart_in}
 use Rattle.sets.specs.Places.{OnlySpans}
-use Rattle.chart.specs.Fill.{Ready, FilledTo}
-use Rattle.chart.proofs.FillFolds.{filled_none, cell-grows, fold-then, fold_over, fold_at}
-use Rattle.chart.proofs.FillSpans.{between-meeting, idle-span, cell_turn, span-pass, turn-fillable, turn-filled}
+use Rattle.chart.specs.Fill.{FilledTo}
+use Rattle.chart.proofs.FillSpans.{cell_turn}
 use Rattle.chart.proofs.build.close_span.Given as goal
 
 abbrev pub invariant-loop-a : goal.invariant-loop-a

@@ -2,7 +2,6 @@
 use Prim.Native.Nat.{◌+◌}
 use native.Mathlib.Omega.{arith}
 use mathlib.Core.Path.{◌≡◌}
-use borrow.Author.Rules.{rules}
 use Rattle.sets.proofs.MeetLaws.{met-word}
 use Rattle.chart.proofs.build.span_set.Goals as goal
 

@@ -9,7 +9,7 @@ use Rattle.card.specs.Productions.{rule_from, ProductionThere}
 use Rattle.card.proofs.Accepted.{view-table}
 use Rattle.chart_model.specs.Build.{by_rule}
 use Rattle.bits.specs.Bits.{bit_of}
-use Rattle.bits.proofs.BitSets.{bit-zero-unless, Walk, walk_start, walk_from, walk-has, walk-passed, walk-next, walk_end}
+use Rattle.bits.proofs.BitSets.{bit-zero-unless, walk_start, walk_from, walk-has, walk-passed, walk-next, walk_end}
 use Rattle.records.specs.Room.{chart_in}
 use Rattle.records.specs.Filling.{begun_with}
 use Rattle.sets.proofs.CardRules.{few-rules}
@@ -17,7 +17,6 @@ use Rattle.steps.proofs.StepCover.{Known, Advancing, advanced-as, advance-start,
 use Rattle.steps.proofs.StepCover.{advance-past, advance-turn, advance-over, advance-rest-known}
 use Rattle.chart.proofs.CardFits.{production-there, production-fits}
 use Rattle.chart.proofs.CellLaws.{at_split, left_out}
-use borrow.Author.Rules.{rules}
 use Rattle.chart.proofs.cell.across_splits.Goals.{After-least-k, After-production_table-table, After-splits_of-rest}
 use Rattle.chart.proofs.cell.across_splits.Goals as goal
 

@@ -4,7 +4,6 @@ use mathlib.Core.Path.{refl, sym, ◌∙◌}
 use Rattle.steps.proofs.StepLaws.{added-as, added_none}
 use Rattle.card.specs.Productions.{rule_from}
 use Rattle.chart.proofs.CellLaws.{word-one, word_none, bare-number, bare-small}
-use borrow.Author.Rules.{rules}
 use Rattle.chart.proofs.cell.at_word.Goals as goal
 
 pub overflow_mul-number : goal.overflow_mul-number

@@ -3,7 +3,6 @@
 use native.Mathlib.Omega.{arith}
 use mathlib.Core.Path.{◌∙◌, ap}
 use lib.ListN.{get_or}
-use borrow.Author.Rules.{rules}
 use Rattle.grammar.specs.Rewriting.{Rule}
 use Rattle.layout.specs.Card.{production}
 use Rattle.card.proofs.Accepted.{view-table}

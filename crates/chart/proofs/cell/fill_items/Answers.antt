@@ -1,11 +1,11 @@
 -- `cell::fill_items` meets its contract. The loop's invariant: what the productions of the set below y add has been added and fits, the table
 -- of cells is right, and the productions from y on are left. Those that are not in the set add nothing. The measure is what is left.
-use Prim.Native.Nat.{ℕ, ◌+◌, ◌-◌, ◌<◌}
+use Prim.Native.Nat.{◌+◌, ◌-◌, ◌<◌}
 use native.Mathlib.Omega.{arith}
 use mathlib.Core.Path.{◌∙◌}
 use Rattle.layout.specs.Card.{max_productions, production_count, grammar_of}
 use Rattle.places.specs.Places.{word_test}
-use Rattle.bits.proofs.BitSets.{Walk, walk_start, walk_from, walk-has, walk-next}
+use Rattle.bits.proofs.BitSets.{walk_start, walk_from, walk-has, walk-next}
 use Rattle.records.specs.Filling.{begun_with, AdvancedTo}
 use Rattle.sets.proofs.CardRules.{rules-length, rule-there, few-rules}
 use Rattle.steps.proofs.StepCover.{Advancing, advanced-as, advance-start, advance-filling, advance-to, advance-turn, advance-over, advance-rest}

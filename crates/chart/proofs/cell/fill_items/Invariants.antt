@@ -1,14 +1,8 @@
-use Prim.Native.Nat.{ℕ, ◌+◌, ◌-◌, ◌<◌}
-use native.Mathlib.Omega.{arith}
-use mathlib.Core.Path.{◌∙◌}
-use Rattle.layout.specs.Card.{max_productions, production_count, grammar_of}
-use Rattle.places.specs.Places.{word_test}
-use Rattle.bits.proofs.BitSets.{Walk, walk_start, walk_from, walk-has, walk-next}
-use Rattle.records.specs.Filling.{begun_with, AdvancedTo}
-use Rattle.sets.proofs.CardRules.{rules-length, rule-there, few-rules}
-use Rattle.steps.proofs.StepCover.{Advancing, advanced-as, advance-start, advance-filling, advance-to, advance-turn, advance-over, advance-rest}
-use Rattle.chart.proofs.CardFits.{few-length}
-use Rattle.chart.proofs.CellLaws.{by_number, chosen-next, chosen-passed, chosen-after, bit-within, all-chosen, given-kept, past-known}
+use Prim.Native.Nat.{ℕ}
+use Rattle.layout.specs.Card.{max_productions}
+use Rattle.bits.proofs.BitSets.{Walk}
+use Rattle.steps.proofs.StepCover.{Advancing}
+use Rattle.chart.proofs.CellLaws.{by_number}
 use Rattle.chart.proofs.cell.fill_items.Given as goal
 
 abbrev pub invariant-loop-rest : goal.invariant-loop-rest

@@ -1,11 +1,10 @@
 -- `chart::cell::finish` meets its contract. The loop's invariant is the contract itself, for the records from the base to m.
 -- The measure is how many records are left.
-use Prim.Native.Nat.{◌+◌, ◌-◌, ◌/◌, ◌≤◌, ◌<◌}
+use Prim.Native.Nat.{◌+◌, ◌/◌, ◌<◌}
 use native.Mathlib.Omega.{arith}
 use mathlib.Core.Path.{◌≡◌, sym, ◌∙◌, ap, subst}
 use lib.ListN.{length, set}
 use Rattle.records.specs.Room.{foot_there, foot_from, number_there}
-use Rattle.chart.specs.Cell.{Finished}
 use Rattle.steps.proofs.StepLaws.{foot-fits, record-there}
 use Rattle.records.proofs.RoomLaws.{number-there}
 use Rattle.records.proofs.TableLaws.{number-within}

@@ -1,5 +1,4 @@
 -- `chart::cell::is_word` meets its contract: only the first arm has anything to compare, the rule's two numbers, one of them with a set. Assumes nothing.
-use borrow.Author.Rules.{rules}
 use Rattle.chart.proofs.CellLaws.{other-left, own-left}
 use Rattle.chart.proofs.cell.is_word.Goals as goal
 

@@ -1,6 +1,5 @@
 -- `sized::build_12_few` meets its contract: its tables are zeros for 12 words and 6 nonterminals.
 -- What these give is one law for all sizes.
-use borrow.Author.Rules.{rules}
 use Rattle.chart.proofs.BuiltExact.{sized-lent}
 use Rattle.chart.proofs.sized.build_12_few.Goals as goal
 

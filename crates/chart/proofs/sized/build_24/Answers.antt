@@ -1,6 +1,5 @@
 -- `sized::build_24` meets its contract: its tables are zeros for 24 words and 16 nonterminals.
 -- What these give is one law for all sizes.
-use borrow.Author.Rules.{rules}
 use Rattle.chart.proofs.BuiltExact.{sized-lent}
 use Rattle.chart.proofs.sized.build_24.Goals as goal
 

@@ -2,7 +2,6 @@
 -- The tests are in terms of what the code read of the card.
 use Prim.Native.Nat.{ℕ, ◌≤◌}
 use native.Mathlib.Omega.{arith}
-use borrow.Author.Rules.{rules}
 use Rattle.layout.specs.Card.{max_nonterminals, nonterminal_count}
 use Rattle.chart.specs.Built.{Sized}
 use Rattle.chart.proofs.CardFits.{few-names}
