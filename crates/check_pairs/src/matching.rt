@@ -152,7 +152,7 @@ pub fn gives(card: &[u8], table: usize, plan: &[u8]) -> usize
 // Writes the pairs, from the last to the first, in one pass back over the plan.
 pub fn write_pairs(card: &[u8], table: usize, plan: &[u8], count: usize, room: &mut [u8])
     requires checked { Checked card.now plan.now × (table ≡ production_table card.now) }
-    requires count_value { (count ≡ length (plan_pairs card.now (steps_of plan.now))) × (2 * count ≤ length room.old) }
+    requires counted { (count ≡ length (plan_pairs card.now (steps_of plan.now))) × (2 * count ≤ length room.old) }
     ensures { room.new ≡ pairs_after (plan_pairs card.now (steps_of plan.now)) room.old }
 {
     let mut takes = [0u8; ENTRIES];

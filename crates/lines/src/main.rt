@@ -90,7 +90,7 @@ fn print_within<F: Files, R: Read, W: Write>(
     text: &mut [u8; answer::TEXT_ROOM],
 ) -> Printed
     ensures prints { Prints card.new input.new text.new result }
-    ensures card_len { (length card.new ≡ most_card) × (length input.new ≡ most_input) }
+    ensures lengths { (length card.new ≡ most_card) × (length input.new ≡ most_input) }
     ensures taken { Consumes (R.remaining from.old) (R.remaining from.new) (take result.input input.new) }
     ensures handed { Handed (W.contents to.old) (W.contents to.new) (take result.text text.new) result.written }
 {

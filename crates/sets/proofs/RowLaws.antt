@@ -35,7 +35,7 @@ module _ {Span : ℕ → ℕ → Type 0} {cell : ℕ → ℕ → ℕ} {line : �
       }
 
   -- And bits into one cell do where its line has it from then on.
-  module _ (a b bits : ℕ) (span : Span a b) (one_Cell : (x y : ℕ) → Span x y → cell x y ≡ cell a b → (x ≡ a) × (y ≡ b))
+  module _ (a b bits : ℕ) (span : Span a b) (one-cell : (x y : ℕ) → Span x y → cell x y ≡ cell a b → (x ≡ a) × (y ≡ b))
       (one_line : (x : ℕ) → line x ≡ line a → x ≡ a) (apart : (x y z : ℕ) → Span x y → cell x y ≡ line z → ⊥)
       (cell-there : cell a b < length old) (line-there : line a < length old) where
     abbrev half : List ℕ
@@ -55,7 +55,7 @@ module _ {Span : ℕ → ℕ → Type 0} {cell : ℕ → ℕ → ℕ} {line : �
       where
         cleared : (x y : ℕ) → Span x y → bit_of y (get_or new (line x) 0) ≡ 0 → get_or new (cell x y) 0 ≡ 0
         cleared x y s z = elim (ℕ_discrete (cell x y) (cell a b)) [
-          | yes e ↦ let (p, q) = one_Cell x y s e in
+          | yes e ↦ let (p, q) = one-cell x y s e in
               absurd (with-there half (line a) b there (subst₂ (λ (u v : ℕ). bit_of v (get_or new (line u) 0) ≡ 0) p q z))
           | no d ↦ get_or-set_other half (line a) (cell x y) _ 0 (apart x y a s)
               ∙ (get_or-set_other old (cell a b) (cell x y) _ 0 d

@@ -22,7 +22,7 @@ pub write_pairs-requires : goal.write_pairs-requires
 write_pairs-requires c =
     record {
       checked = (c.requires, c.production_table-table.ensures ∙ view-table c.of.ensures);
-      count_value = (c.gives-count.ensures.0, omega (arith, c.if-room-count.false));
+      counted = (c.gives-count.ensures.0, omega (arith, c.if-room-count.false));
     }
 
 pub returns : goal.returns

@@ -14,7 +14,7 @@ pub loop-left-init : goal.loop-left-init
 loop-left-init c =
     let a = c.args in
     let x = passed a.card.now c.requires.checked.0.0 a.plan.now c.requires.checked.0.1 in
-    (x, writing_start a.card.now a.plan.now x a.room.now a.count c.requires.count_value.1)
+    (x, writing_start a.card.now a.plan.now x a.room.now a.count c.requires.counted.1)
 
 pub overflow_mul-left : goal.overflow_mul-left
 overflow_mul-left c = omega (arith, c.loop-left.invariant.1.in_plan)
@@ -44,7 +44,7 @@ match_step-at-requires c =
     let st = c.step_at-step in
     let d = c.production-production in
     writing-room a.card.now a.plan.now l.invariant.0 a.room.now a.count l.takes l.room l.at l.left l.invariant.1
-    st.result (rule_from d.result) c.loop-left-test.true st.ensures (meant (goal.at.match_step-at-requires c).After-production-production) c.requires.count_value.0 c.action_of.ensures c.side_of-side.ensures
+    st.result (rule_from d.result) c.loop-left-test.true st.ensures (meant (goal.at.match_step-at-requires c).After-production-production) c.requires.counted.0 c.action_of.ensures c.side_of-side.ensures
 
 pub loop-left-preserved : goal.loop-left-preserved
 loop-left-preserved c =
@@ -68,4 +68,4 @@ pub returns : goal.returns
 returns c =
     let a = c.args in
     let l = c.loop-left in
-    writing-end a.card.now a.plan.now l.invariant.0 a.room.now a.count l.takes l.room l.at l.left l.invariant.1 c.loop-left-test.false c.requires.count_value.0
+    writing-end a.card.now a.plan.now l.invariant.0 a.room.now a.count l.takes l.room l.at l.left l.invariant.1 c.loop-left-test.false c.requires.counted.0
