@@ -8,7 +8,7 @@ use lib.Dec.{leb}
 use lib.ListN.{length}
 use borrow.Author.Tests.{leb-true}
 use Rattle.layout.specs.Card.{card_number}
-use Rattle.layout.proofs.TestLaws.{refused, passed}
+use Rattle.layout.proofs.TestLaws.{refused}
 use Rattle.split.specs.Lines.{lines_of}
 use Rattle.sheet.specs.Sheet.{most_lines, sheet_number}
 use Rattle.sheet.proofs.Outcome.{by-card, by_lines, by-none, refused-first, failed, all_read, read-few, read-within, read_taken}
@@ -19,7 +19,7 @@ accepted : (c : Else-not-at_most) → let a = c.args in card_number a.card.now �
 accepted c = sym c.card_number-refused.ensures ∙ c.if-refused-ne0.false
 
 few : (c : Else-not-at_most) → let a = c.args in leb (length (lines_of a.sheet.now)) most_lines ≡ true
-few c = passed c.at_most.ensures c.if-not-at_most.false-raw
+few c = sym c.at_most.ensures ∙ c.if-not-at_most.false
 
 none-refuse : (c : Else-not-at_most) → let a = c.args in sheet_number a.card.now a.sheet.now ≡ 0
 none-refuse c = let a = c.args in by-none a.card.now a.sheet.now (accepted c) (few c)

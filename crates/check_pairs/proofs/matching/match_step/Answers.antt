@@ -8,7 +8,7 @@ use Rattle.card.specs.Productions.{action_from}
 use Rattle.card.specs.declared.Action.{Action}
 use Rattle.check_pairs.specs.Matching.{stretch_from, CanGive}
 use Rattle.check_pairs.proofs.StepLaws.{matched-take, matched-keep, matched-give}
-use Rattle.check_pairs.proofs.matching.match_step.Goals.{After-way_told-in-Give-1, In-Give}
+use Rattle.check_pairs.proofs.matching.match_step.Goals.{In-Give}
 use Rattle.check_pairs.proofs.matching.match_step.Goals as goal
 
 giving : (c : In-Give)

@@ -10,7 +10,7 @@ use Rattle.card.proofs.Accepted.{view-entry}
 use Rattle.line.specs.Slots.{Ranged}
 use Rattle.line.proofs.CardLaws.{words-few, most-letters}
 use Rattle.line.proofs.SlotLaws.{slot-there, ranged-none, ranged-more}
-use Rattle.line.proofs.slots.range_all.Goals.{After-entry_at-entry, After-shared_slice_known-in-loop-v-1, After-shared_slice_known-in-loop-v-3-1, After-wide-size, In-loop-v}
+use Rattle.line.proofs.slots.range_all.Goals.{After-entry_at-entry, After-wide-size, In-loop-v}
 use Rattle.line.proofs.slots.range_all.Goals as goal
 
 pub loop-v-init : goal.loop-v-init
