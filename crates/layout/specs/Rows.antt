@@ -56,11 +56,13 @@ number_alone = 49 ∷ 52 ∷ 32 ∷ 116 ∷ 97 ∷ 107 ∷ 101 ∷ 115 ∷ 32 �
 
 abbrev pub plan_numbered : List ℕ
 plan_numbered =
-    plan_bytes (plan_step 7 0 2 4 ∷ plan_step 15 0 1 2 ∷ plan_step 11 0 1 1 ∷ plan_step 13 1 2 2 ∷ plan_step 9 2 3 4 ∷ plan_step 2 2 3 3 ∷ plan_step 3 3 4 4 ∷ [])
+    plan_bytes
+    (plan_step 7 0 2 4 ∷ plan_step 15 0 1 2 ∷ plan_step 11 0 1 1 ∷ plan_step 13 1 2 2 ∷ plan_step 9 2 3 4 ∷ plan_step 2 2 3 3 ∷ plan_step 3 3 4 4 ∷ [])
 
 abbrev pub plan_extra : List ℕ
 plan_extra =
-    plan_bytes (plan_step 7 0 1 4 ∷ plan_step 0 0 1 1 ∷ plan_step 9 1 2 4 ∷ plan_step 2 1 2 2 ∷ plan_step 18 2 3 4 ∷ plan_step 17 2 3 3 ∷ plan_step 3 3 4 4 ∷ [])
+    plan_bytes
+    (plan_step 7 0 1 4 ∷ plan_step 0 0 1 1 ∷ plan_step 9 1 2 4 ∷ plan_step 2 1 2 2 ∷ plan_step 18 2 3 4 ∷ plan_step 17 2 3 3 ∷ plan_step 3 3 4 4 ∷ [])
 
 abbrev pub plan_both : List ℕ
 plan_both =

@@ -1,5 +1,6 @@
 -- The records of a chart in the bytes of a room, and what adding to them promises.
-use Rattle.std.specs.Prelude.{ℕ, zero, suc, ◌+◌, ◌*◌, ◌-◌, ◌/◌, ◌%◌, ◌≤◌, ◌<◌, ◌≡◌, Bool, cond, ◌||◌, List, [], ◌∷◌, ◌++◌, map, eqb, leb, length, take, drop, get_or, set}
+use Rattle.std.specs.Prelude.{ℕ, zero, suc, ◌+◌, ◌*◌, ◌-◌, ◌/◌, ◌%◌, ◌≤◌, ◌<◌, ◌≡◌}
+use Rattle.std.specs.Prelude.{Bool, cond, ◌||◌, List, [], ◌∷◌, ◌++◌, map, eqb, leb, length, take, drop, get_or, set}
 use Rattle.std.proofs.Math.Option.{Option, none, some}
 use Rattle.grammar.specs.Lists.{concat_map}
 use Rattle.grammar.specs.Items.{Foot, bare, foot}
