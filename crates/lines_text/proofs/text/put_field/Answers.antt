@@ -1,3 +1,4 @@
+-- `text::put_field` meets its contract: the digits are those of the number, and the byte after them comes next.
 use Rattle.std.proofs.Common.{arith}
 use Rattle.lines_text.proofs.Decimal.{decimal-short, field-appends}
 use Rattle.lines_text.proofs.text.put_field.Goals as goal

@@ -1,3 +1,4 @@
+-- `text::put_step` meets its contract: its fields are appended one after the other, and none is longer than 21 bytes.
 use Rattle.std.proofs.Common.{arith}
 use Rattle.lines_text.proofs.Decimal.{field-short}
 use Rattle.lines_text.proofs.text.put_step.Goals as goal
