@@ -1,5 +1,5 @@
 -- Bits of a number, for sets of small numbers.
-use Rattle.std.specs.Prelude.{ℕ, zero, suc, ◌/◌, ◌%◌, ◌^◌, ◌<◌, ◌≡◌, Bool, cond, List, [], ◌∷◌, eqb}
+use Rattle.std.specs.Prelude.{ℕ, zero, suc, ◌/◌, ◌%◌, ◌^◌, ◌<◌, ◌≡◌, Bool, cond, List, [], ◌∷◌, eqb, Option, MatchOption}
 use Rattle.std.specs.Int.Bits.{bit_and, bit_or}
 
 abbrev pub bit_of : ℕ → ℕ → ℕ
@@ -36,3 +36,7 @@ pub record Without (set k rest : ℕ) : Type 0 where
   pub gone : bit_of k rest ≡ 0
   pub kept : (q : ℕ) → (q ≡ k → ⊥) → bit_of q rest ≡ bit_of q set
   pub less : rest < set
+
+-- One step of a walk over a set, least first: it gives the least number and leaves the set without it; from the empty set it gives none.
+abbrev pub TakesLeast : ℕ → Option ℕ → ℕ → Type 0
+TakesLeast set next rest = MatchOption next ((set ≡ 0) × (rest ≡ 0)) (λ k. Least set k × Without set k rest)

@@ -2,16 +2,14 @@
 #![tactic(auto)]
 
 ghost use Rattle.std.specs.Prelude.{◌≡◌, ◌<◌};
-ghost use Rattle.bits.specs.Bits.{bit_of, holds_bit, with_number, is_part, Least, Without};
+ghost use Rattle.std.specs.Iterator.{at_most};
+ghost use Rattle.bits.specs.Bits.{bit_of, holds_bit, with_number, is_part, Least, Without, TakesLeast};
 
 // Is a number in a set of numbers below 32?
 pub fn has(set: u32, b: u8) -> bool
     ensures { result ≡ holds_bit b set }
 {
-    if 31 < b {
-        return false;
-    }
-    set & (1u32 << b) != 0
+    b < 32 && set & (1u32 << b) != 0
 }
 
 // A set of numbers below 32 with one more.
@@ -30,7 +28,7 @@ pub fn is_part(part: u32, whole: u32) -> bool
 }
 
 // The least number of a set of numbers below 64 that is not empty.
-pub fn least(set: u64) -> usize
+fn least(set: u64) -> usize
     requires { set ≡ 0 → ⊥ }
     ensures { Least set result }
 {
@@ -38,9 +36,40 @@ pub fn least(set: u64) -> usize
 }
 
 // The set without a number that it has.
-pub fn without(set: u64, k: usize) -> u64
+fn without(set: u64, k: usize) -> u64
     requires { (k < 64) × (bit_of k set ≡ 1) }
     ensures { Without set k result }
 {
     set - (1u64 << k)
+}
+
+// A walk over a set of numbers below 64, least first: those that are left.
+#[derive(Drop)]
+pub struct Members {
+    pub rest: u64,
+}
+
+impl Iterator for Members {
+    type Item = usize;
+
+    ghost next_gives = { λ s r t. TakesLeast s.rest r t.rest };
+
+    // A set without one of its numbers is less, as a number.
+    ghost remaining = { λ s. at_most s.rest };
+
+    fn next(&mut self) -> Option<usize> {
+        if self.rest == 0 {
+            return None;
+        }
+        let k = least(self.rest);
+        self.rest = without(self.rest, k);
+        Some(k)
+    }
+}
+
+// The numbers of a set, least first.
+pub fn numbers(set: u64) -> Members
+    ensures { result.rest ≡ set }
+{
+    Members { rest: set }
 }

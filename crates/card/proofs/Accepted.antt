@@ -3,22 +3,22 @@
 use Prim.Native.Nat.{ℕ, ◌+◌, ◌-◌, ◌<◌, ◌≤◌}
 use native.Mathlib.Nat.{add-sub_cancel_left}
 use native.Mathlib.Omega.{arith}
-use mathlib.Core.Path.{◌≡◌, sym, ◌∙◌}
+use mathlib.Core.Path.{◌≡◌, refl, sym, ◌∙◌}
 use mathlib.Core.Bool.{Bool, true, false}
 use mathlib.Core.List.{List, [], ◌∷◌}
 use borrow.Author.Tests.{leb-true, eq-eqb, ne_eqb, lt-ltb, le-ltb, lt-leb, le-leb}
 use lib.Dec.{eqb, leb, ltb}
 use lib.ListN.{length, take, drop}
 use Rattle.layout.specs.Bytes.{byte_at, number16_at, same_bytes}
-use Rattle.layout.specs.Card.{mark, least_header, word_count, word_table, production_table, card_length, entry_at, entry_length, spelling_length}
+use Rattle.layout.specs.Card.{mark, least_header, word_count, word_table, production_table, card_length, entry_at, entry_length, production_at, spelling_length}
 use Rattle.layout.specs.Card.{max_nonterminals, max_words, max_indices, max_productions, most_letters, within}
 use Rattle.layout.specs.Card.{mark_fits, counts_fit, lengths_fit, entry_fits, entries_fit, productions_fit, names_live, card_refusals, card_number}
 use Rattle.layout.specs.Refusals.{unless}
-use Rattle.layout.specs.Answers.{name_number, name_part}
+use Rattle.layout.specs.Answers.{name_number, name_answer, name_part}
 use Rattle.layout.proofs.TestLaws.{both, limits, below_all}
 use Rattle.layout.proofs.RefusalLaws.{accepts, holding, failing, decides-first}
 use Rattle.layout.proofs.Accepting.{accepted-card, accepted-counts, entry-inside, name-of-card, name-of-word, name-accepts}
-use Rattle.card.specs.declared.Card.{Card}
+use Rattle.card.specs.declared.header.View.{View}
 use Rattle.card.specs.View.{ViewOf, counts_within, entry_place, table_place, production_place}
 
 -- The mark, by what was compared.
@@ -32,11 +32,11 @@ mark-same card bytes h same e = rw (le-leb least_header (length card) h, ← e) 
 pub header-there : (card : List ℕ) → mark_fits card ≡ true → least_header ≤ length card
 header-there card e = leb-true least_header (length card) (both (leb least_header (length card)) _ e).0
 
-pub counts_same : {card : List ℕ} {c : Card} → ViewOf card c → counts_within c ≡ counts_fit card
+pub counts_same : {card : List ℕ} {c : View} → ViewOf card c → counts_within c ≡ counts_fit card
 counts_same h = rw (h.nonterminals, h.words, h.indices, h.productions)
 
 -- The counts in turn: the first that is outside its limits decides, and else the last.
-module _ (c : Card) where
+module _ (c : View) where
   pub first_count : within 1 max_nonterminals c.nonterminals ≡ false → false ≡ counts_within c
   first_count h = rw h
 
@@ -53,7 +53,7 @@ module _ (c : Card) where
       fourth-count three h = rw (one, two, three) h
 
 -- Where things stand by the view, and by the definitions.
-module _ {card : List ℕ} {c : Card} (h : ViewOf card c) where
+module _ {card : List ℕ} {c : View} (h : ViewOf card c) where
   pub view-entry : (v : ℕ) → entry_place c v ≡ entry_at card v
   view-entry v = rw h.header
 
@@ -62,6 +62,9 @@ module _ {card : List ℕ} {c : Card} (h : ViewOf card c) where
 
   pub view-table : table_place c ≡ production_table card
   view-table = rw (h.header, h.words)
+
+  pub view-production : (m : ℕ) → production_place c m ≡ production_at card m
+  view-production m = rw (h.header, h.words)
 
   pub view-length : production_place c c.productions ≡ card_length card
   view-length = rw (h.header, h.words, h.productions)
@@ -153,3 +156,13 @@ name-part card word at n z e h = rw (eq-eqb (name_number card word) 0 z, add-sub
 
 pub no_part : (card : List ℕ) (word : ℕ) → (name_number card word ≡ 0 → ⊥) → [] ≡ name_part card word
 no_part card word h = rw (ne_eqb (name_number card word) 0 h)
+
+-- What is answered where the card or the word is refused.
+pub answer-refused : (card : List ℕ) (word : ℕ) {number : ℕ} → number ≡ name_number card word → (number ≡ 0 → ⊥)
+    → record { number = number; offset = 0; size = 0 } ≡ name_answer card word
+answer-refused card word e ne = rw (ne_eqb (name_number card word) 0 λ z. ne (e ∙ z), e) refl
+
+-- A known word's spelling lies inside its entry.
+pub spelling-inside : (card : List ℕ) (word at size : ℕ) → name_number card word ≡ 0 → at ≡ entry_at card word
+    → size ≡ spelling_length card word → at + 1 + size ≤ length card
+spelling-inside card word at size z e h = let known = known-word card word z in omega (arith, known.inside, known.short, e, h)

@@ -16,13 +16,15 @@ use Rattle.bits.proofs.BitSets.{numbers-kept, numbers-there, numbers-from, part-
 use Rattle.grammar.specs.Rewriting.{Rule}
 use Rattle.grammar.specs.Names.{left_name, right_names, is_left, on_left, live_rule}
 use Rattle.grammar.proofs.ListLaws.{in-stands, stands-in, of-all, not-all-of, some_of_lem, of_some}
-use Rattle.layout.specs.Card.{production, production_at, production_count, grammar_of, production_fits, names_live}
+use Rattle.layout.specs.Card.{production, production_at, production_count, grammar_of, production_fits, productions_fit, names_live}
 use Rattle.layout.proofs.TestLaws.{all-below, some_below_lem}
 use Rattle.layout.proofs.CountedLaws.{table-stands, stands-below, rule-there}
+use Rattle.std.specs.Prelude.{Ok, Err}
+use Rattle.refusals.specs.declared.Refusal.TheVariants.{Production}
 use Rattle.card.specs.declared.names.Names.{Names}
 use Rattle.card.specs.declared.productions.Fields.{Fields}
 use Rattle.card.specs.Productions.{FieldsAt, fields_fit}
-use Rattle.card.specs.Names.{lefts_below, rights_below, NamesWith, CheckedOf}
+use Rattle.card.specs.Names.{lefts_below, rights_below, NamesWith, is_live, NamesChecked}
 use Rattle.card.proofs.FieldLaws.{fields-same, left-same, right-same}
 
 module _ (card : List ℕ) where
@@ -120,14 +122,21 @@ gathered-more m was there read fit w =
     }
 
 -- At the end; and where one does not fit.
-pub gathered-all : {card : List ℕ} {m : ℕ} {names : Names} {t : Bool} → Gathered card m names → m ≡ production_count card
-    → t ≡ is_part names.right names.left → CheckedOf card (record { fit = true; live = t })
-gathered-all {card} all end e =
-    let fit = all-below (production_count card) (production_fits card) λ k h. all.fits k (omega arith) in
-    record { fit = fit; live = rw (← fit) (e ∙ rw (all.lefts, all.rights, end) (part-decides card)) }
+pub gathered-fit : {card : List ℕ} {m : ℕ} {names : Names} → Gathered card m names → m ≡ production_count card
+    → productions_fit card ≡ true
+gathered-fit {card} all end = sym (all-below (production_count card) (production_fits card) λ k h. all.fits k (omega arith))
+
+pub gathered-live : {card : List ℕ} {m : ℕ} {names : Names} → Gathered card m names → m ≡ production_count card
+    → is_live names ≡ names_live card
+gathered-live {card} all end = rw (all.lefts, all.rights, end) (part-decides card)
+
+pub gathered-all : {card : List ℕ} {m : ℕ} {names : Names} → Gathered card m names → m ≡ production_count card
+    → NamesChecked card (Ok names)
+gathered-all all end = record { number = rw (gathered-fit all end) refl; live = gathered-live all end }
 
 pub one-unfit : {card : List ℕ} (m : ℕ) {at : ℕ} {f : Fields} → m < production_count card → at ≡ production_at card m → FieldsAt card at f
-    → fields_fit card f ≡ false → CheckedOf card (record { fit = false; live = false })
+    → fields_fit card f ≡ false → NamesChecked card (Err Production)
 one-unfit {card} m h there read unfit =
-    let none = some_below_lem (production_count card) (production_fits card) m h (sym (fields-same m there read) ∙ unfit) in
-    record { fit = none; live = rw (← none) refl }
+    let none : productions_fit card ≡ false =
+    sym (some_below_lem (production_count card) (production_fits card) m h (sym (fields-same m there read) ∙ unfit)) in
+    record { number = rw none refl; live = tt }

@@ -1,3 +1,5 @@
 pub mod View
 pub mod Productions
 pub mod Names
+pub mod Checks
+pub mod Spelled

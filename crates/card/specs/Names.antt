@@ -1,10 +1,11 @@
 -- The names of a card's productions, as sets of numbers: those on the left and those on the right of the first m.
-use Rattle.std.specs.Prelude.{ℕ, zero, suc, ◌≡◌, cond, ◌&&◌, List, [], ◌∷◌, eqb}
-use Rattle.bits.specs.Bits.{with_number, with_numbers}
+use Rattle.std.specs.Prelude.{ℕ, zero, suc, ◌≡◌, Bool, cond, List, [], ◌∷◌, eqb, Result, IfOk}
+use Rattle.bits.specs.Bits.{with_number, with_numbers, is_part}
 use Rattle.grammar.specs.Names.{left_name, right_names}
 use Rattle.layout.specs.Card.{production, productions_fit, names_live}
 use Rattle.card.specs.declared.names.Names.{Names}
-use Rattle.card.specs.declared.productions.Checked.{Checked}
+use Rattle.refusals.specs.declared.Refusal.{Refusal}
+use Rattle.refusals.specs.Number.{number_in}
 
 abbrev pub lefts_below : List ℕ → ℕ → ℕ
 lefts_below card zero = 0
@@ -23,7 +24,11 @@ pub record NamesWith (before : Names) (kind a b c : ℕ) (after : Names) : Type 
   pub left : after.left ≡ with_number before.left a
   pub right : after.right ≡ with_numbers before.right (right_bytes kind b c)
 
--- What the productions' check finds: 16 asks whether they fit, and then 42 whether their names are live.
-pub record CheckedOf (card : List ℕ) (c : Checked) : Type 0 where
-  pub fit : c.fit ≡ productions_fit card
-  pub live : c.live ≡ (productions_fit card && names_live card)
+-- Is every name on the right on the left too?
+abbrev pub is_live : Names → Bool
+is_live names = is_part names.right names.left
+
+-- What the productions' check finds: 16 where one does not fit, and else the names, by which 42 is decided.
+pub record NamesChecked (card : List ℕ) (r : Result Names Refusal) : Type 0 where
+  pub number : number_in r ≡ cond (productions_fit card) 0 16
+  pub live : IfOk r (λ names. is_live names ≡ names_live card)

@@ -1,8 +1,8 @@
 -- What the card's productions, as the code has them, mean as rules of a grammar.
-use Rattle.std.specs.Prelude.{ℕ, ◌+◌, ◌<◌, ◌≡◌, Bool, ◌&&◌, List, [], ◌∷◌, eqb}
+use Rattle.std.specs.Prelude.{ℕ, ◌+◌, ◌≡◌, Bool, ◌&&◌, List, [], ◌∷◌, eqb}
 use Rattle.grammar.specs.Rewriting as grammar
 use Rattle.layout.specs.Bytes.{byte_at}
-use Rattle.layout.specs.Card.{production_table, production_count, kind_fits, card_number}
+use Rattle.layout.specs.Card.{kind_fits}
 use Rattle.card.specs.declared.Action.{Action}
 use Rattle.card.specs.declared.Action.TheVariants.{Take, Keep, Give}
 use Rattle.card.specs.declared.Production.{Production}
@@ -31,9 +31,3 @@ pub record FieldsAt (card : List ℕ) (at : ℕ) (f : Fields) : Type 0 where
 -- Do they fit the table of kinds?
 abbrev pub fields_fit : List ℕ → Fields → Bool
 fields_fit card f = kind_fits card f.kind f.a f.b f.c f.g && eqb f.last 0
-
--- Production m of an accepted card, whose table of productions starts at `table`.
-pub record ProductionThere (card : List ℕ) (table m : ℕ) : Type 0 where
-  pub accepted : card_number card ≡ 0
-  pub starts : table ≡ production_table card
-  pub counted : m < production_count card

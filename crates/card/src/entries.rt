@@ -4,15 +4,16 @@ ghost use Rattle.layout.specs.Card.{entry_length, entry_at, word_count, entry_fi
 ghost use Rattle.card.specs.View.{ViewOf};
 
 use crate::Card;
+use crate::header::View;
 use crate::numbers::within;
-use octets::{all_letters, all_zero, byte, wide};
+use octets::{all_letters, all_zero};
 
-fn entry_fits(card: &[u8], view: Card, v: usize) -> bool
+fn entry_fits(card: &[u8], view: View, v: usize) -> bool
     requires { ViewOf card.now view × (v < 256) × (entry_at card.now v + entry_length ≤ length card.now) }
     ensures { result ≡ entry_fits card.now v }
 {
     let at = view.entry_at(v);
-    let n = wide(byte(card, at));
+    let n = usize::from(card[at]);
     // One byte of the entry is the length itself.
     if !within(1, Card::ENTRY - 1, n) {
         return false;
@@ -20,23 +21,17 @@ fn entry_fits(card: &[u8], view: Card, v: usize) -> bool
     let from = at + 1;
     let to = from + n;
     let end = at + Card::ENTRY;
-    if !all_letters(&card[from..to]) {
-        return false;
-    }
-    all_zero(&card[to..end])
+    all_letters(&card[from..to]) && all_zero(&card[to..end])
 }
 
-pub fn entries_fit(card: &[u8], view: Card) -> bool
+pub fn entries_fit(card: &[u8], view: View) -> bool
     requires { ViewOf card.now view × (entry_at card.now (word_count card.now) ≤ length card.now) }
     ensures { result ≡ entries_fit card.now }
 {
-    let words = view.words;
-    let mut v = 0;
-    while v < words {
+    for v in 0..view.words {
         if !entry_fits(card, view, v) {
             return false;
         }
-        v += 1;
     }
     true
 }

@@ -1,6 +1,5 @@
 // The card: its type, the check of its bytes, its productions and the names of its words (document 01, "The card").
-// A byte past the end of a card reads as 0, so every function here takes any bytes of any length, but for `Card::production`, which is
-// asked of an accepted card.
+// What is asked before a card is accepted takes any bytes of any length: a byte past the end reads as 0.
 #![tactic(auto)]
 
 mod entries;
@@ -9,27 +8,29 @@ mod names;
 mod numbers;
 mod productions;
 
-ghost use Rattle.std.specs.Prelude.{◌≡◌, ◌+◌, ◌*◌, ◌≤◌, ◌<◌};
-ghost use Rattle.layout.specs.Card.{most_header, production_length, production, card_number};
-ghost use Rattle.layout.specs.Answers.{name_number, name_part};
-ghost use Rattle.card.specs.View.{ViewOf, counts_within, entry_place, table_place, production_place};
-ghost use Rattle.card.specs.Productions.{rule_from, ProductionThere};
+ghost use Rattle.std.specs.Prelude.{◌≡◌, ◌+◌, ◌≤◌, ◌<◌, IfOk, length};
+ghost use Rattle.layout.specs.Card.{nonterminal_count, word_count, index_count, production_count};
+ghost use Rattle.layout.specs.Card.{max_nonterminals, max_words, max_indices, max_productions};
+ghost use Rattle.layout.specs.Card.{entry_at, production_at, production_length, production, card_number};
+ghost use Rattle.layout.specs.Answers.{name_number, name_answer, name_part};
+ghost use Rattle.refusals.specs.Number.{number_in};
+ghost use Rattle.card.specs.Productions.{rule_from};
+ghost use Rattle.card.specs.Spelled.{answer_in};
 
-use numbers::within;
-use octets::{byte, wide};
+use header::View;
+use productions::Fields;
+use refusals::Refusal;
 
-// Where things stand on a card: the length of its header, and its four counts. The limits and the places of the tables belong to this
-// type.
+// An accepted card, as its bytes. The limits and the places of the tables belong to this type.
 #[derive(Clone, Copy)]
-pub struct Card {
-    pub header: usize,
-    pub nonterminals: usize,
-    pub words: usize,
-    pub indices: usize,
-    pub productions: usize,
+pub struct Card<'a> {
+    pub bytes: &'a [u8],
+    pub ghost accepted: { card_number bytes.now ≡ 0 },
 }
 
-impl Card {
+impl<'a> Card<'a> {
+    ghost use Rattle.card.specs.Checks.{Checks};
+
     pub const MAX_NONTERMINALS: usize = 16;
 
     pub const MAX_WORDS: usize = 32;
@@ -48,74 +49,74 @@ impl Card {
 
     pub const PRODUCTION: usize = 6;
 
-    // The view of any bytes.
-    pub fn of(card: &[u8]) -> Card
-        ensures { ViewOf card.now result }
+    // Refusals 11 to 14, 16 and 42 in their order, each over the whole card.
+    pub fn check(bytes: &'a [u8]) -> Result<Card<'a>, Refusal>
+        ensures { Checks bytes.now result }
     {
-        Card {
-            header: Self::LEAST_HEADER,
-            nonterminals: wide(byte(card, 4)),
-            words: wide(byte(card, 5)),
-            indices: wide(byte(card, 6)),
-            productions: wide(byte(card, 7)),
+        if !header::mark_fits(bytes) {
+            return Err(Refusal::Mark);
         }
+        let view = View::of(bytes);
+        if !view.counts_fit() {
+            return Err(Refusal::Counts);
+        }
+        if !header::lengths_fit(bytes, view) {
+            return Err(Refusal::Lengths);
+        }
+        if !entries::entries_fit(bytes, view) {
+            return Err(Refusal::Entry);
+        }
+        let names = productions::check(bytes, view)?;
+        if !names.live() {
+            return Err(Refusal::DeadName);
+        }
+        Ok(Card { bytes })
     }
 
-    // Refusal 12 asks this.
-    pub fn counts_fit(self) -> bool
-        ensures { result ≡ counts_within self }
+    pub fn nonterminals(self) -> usize
+        ensures counts { result ≡ nonterminal_count self.entry.bytes.now }
+        ensures few { result ≤ max_nonterminals }
     {
-        if !within(1, Self::MAX_NONTERMINALS, self.nonterminals) {
-            return false;
-        }
-        if !within(1, Self::MAX_WORDS, self.words) {
-            return false;
-        }
-        if !within(0, Self::MAX_INDICES, self.indices) {
-            return false;
-        }
-        within(1, Self::MAX_PRODUCTIONS, self.productions)
+        usize::from(self.bytes[4])
+    }
+
+    pub fn words(self) -> usize
+        ensures counts { result ≡ word_count self.entry.bytes.now }
+        ensures few { result ≤ max_words }
+    {
+        usize::from(self.bytes[5])
+    }
+
+    pub fn productions(self) -> usize
+        ensures counts { result ≡ production_count self.entry.bytes.now }
+        ensures few { result ≤ max_productions }
+    {
+        usize::from(self.bytes[7])
     }
 
     // Where entry v starts.
     pub fn entry_at(self, v: usize) -> usize
-        requires { (self.header ≤ most_header) × (v < 256) }
-        ensures { result ≡ entry_place self v }
+        requires { v < 256 }
+        ensures { result ≡ entry_at self.entry.bytes.now v }
     {
-        self.header + Self::ENTRY * v
+        Self::LEAST_HEADER + Self::ENTRY * v
     }
 
-    // Where the productions start.
-    pub fn production_table(self) -> usize
-        requires { (self.header ≤ most_header) × (self.words < 256) }
-        ensures { result ≡ table_place self }
+    // Where production m starts.
+    pub fn production_at(self, m: usize) -> usize
+        requires { m < production_count self.bytes.now }
+        ensures at { result ≡ production_at self.entry.bytes.now m }
+        ensures inside { result + production_length ≤ length self.entry.bytes.now }
     {
-        self.entry_at(self.words)
+        self.entry_at(self.words()) + Self::PRODUCTION * m
     }
 
-    // Where production m starts in the table that starts at `table`.
-    fn production_at(table: usize, m: usize) -> usize
-        requires { (table < 65536) × (m < 256) }
-        ensures { result ≡ table + production_length * m }
+    // Production m.
+    pub fn production(self, m: usize) -> Production
+        requires { m < production_count self.bytes.now }
+        ensures { rule_from result ≡ production self.entry.bytes.now m }
     {
-        table + Self::PRODUCTION * m
-    }
-
-    // Where the last production ends.
-    fn length(self) -> usize
-        requires { (self.header ≤ most_header) × (self.words < 256) × (self.productions < 256) }
-        ensures { result ≡ production_place self self.productions }
-    {
-        Self::production_at(self.production_table(), self.productions)
-    }
-
-    // Production m of an accepted card whose table of productions starts at `table`.
-    pub fn production(card: &[u8], table: usize, m: usize) -> Production
-        requires { ProductionThere card.now table m }
-        ensures { rule_from result ≡ production card.now m }
-    {
-        let f = productions::fields_at(card, Self::production_at(table, m));
-        productions::production_of(f.kind, f.a, f.b, f.c, f.g)
+        Fields::at(self.bytes, self.production_at(m)).production()
     }
 }
 
@@ -148,59 +149,34 @@ pub enum Production {
     },
 }
 
-// Refusals 11 to 14, 16 and 42 in their order, each over the whole card; 0 where the card is accepted.
-pub fn card_number(card: &[u8]) -> u64
-    ensures { result ≡ card_number card.now }
-{
-    if !header::mark_fits(card) {
-        return 11;
-    }
-    let view = Card::of(card);
-    if !view.counts_fit() {
-        return 12;
-    }
-    if !header::lengths_fit(card, view) {
-        return 13;
-    }
-    // These two look at the whole card whatever the other finds: the order of refusals stands here alone.
-    let fit = entries::entries_fit(card, view);
-    let table = productions::check(card, view);
-    if !fit {
-        return 14;
-    }
-    if !table.fit {
-        return 16;
-    }
-    if !table.live {
-        return 42;
-    }
-    0
+// Where a spelling stands on its card, and how long it is.
+#[derive(Clone, Copy)]
+pub struct Spelling {
+    pub offset: usize,
+    pub size: usize,
 }
 
-// The card's refusals, then 35 for a word that the card does not have.
-pub fn name_number(card: &[u8], word: usize) -> u64
-    ensures { result ≡ name_number card.now word }
+// Where a word's spelling stands: the card's refusals, then 35 for a word that the card does not have.
+pub fn find_name(bytes: &[u8], word: usize) -> Result<Spelling, Refusal>
+    ensures answer { answer_in result ≡ name_answer bytes.now word }
+    ensures inside { IfOk result (λ s. s.offset + s.size ≤ length bytes.now) }
 {
-    let number = card_number(card);
-    let words = Card::of(card).words;
-    if number != 0 {
-        return number;
+    let card = Card::check(bytes)?;
+    if card.words() <= word {
+        return Err(Refusal::NoSuchWord);
     }
-    if words <= word {
-        return 35;
-    }
-    0
+    let at = card.entry_at(word);
+    Ok(Spelling {
+        offset: at + 1,
+        size: usize::from(bytes[at]),
+    })
 }
 
-// The spelling as the card's own bytes; empty on a refusal.
-pub fn name(card: &[u8], word: usize) -> &[u8]
-    ensures { result.now ≡ name_part card.now word }
+// The spelling as the card's own bytes.
+pub fn name(bytes: &[u8], word: usize) -> Result<&[u8], Refusal>
+    ensures number { number_in result ≡ name_number bytes.now word }
+    ensures part { IfOk result (λ s. s.now ≡ name_part bytes.now word) }
 {
-    if name_number(card, word) != 0 {
-        return &card[..0];
-    }
-    let at = Card::of(card).entry_at(word);
-    let from = at + 1;
-    let to = at + 1 + wide(byte(card, at));
-    &card[from..to]
+    let spelling = find_name(bytes, word)?;
+    Ok(&bytes[spelling.offset..spelling.offset + spelling.size])
 }

@@ -5,8 +5,5 @@ ghost use Rattle.layout.specs.Card as layout;
 pub fn within(low: usize, high: usize, x: usize) -> bool
     ensures { result ≡ layout.within low high x }
 {
-    if x < low {
-        return false;
-    }
-    x <= high
+    low <= x && x <= high
 }

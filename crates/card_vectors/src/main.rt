@@ -4,9 +4,9 @@
 
 mod cards;
 mod names;
-mod print;
 mod productions;
 
+use card::Card;
 use cards::{alike, largest, tomato, with};
 use std::io;
 
@@ -14,7 +14,10 @@ fn number(card: [u8; 1024], length: usize) -> u64 {
     if 1024 < length {
         return 0;
     }
-    card::card_number(&card[..length])
+    match Card::check(&card[..length]) {
+        Ok(_) => 0,
+        Err(refusal) => u64::from(refusal),
+    }
 }
 
 // A line: two bytes changed, place and value of each, the length, and the number.
@@ -27,15 +30,13 @@ fn change(
     otherwise: u8,
     length: usize,
 ) -> io::Result<()> {
-    print::number(rt, at as u64)?;
-    print::field(rt, value as u64)?;
-    print::field(rt, other as u64)?;
-    print::field(rt, otherwise as u64)?;
-    print::field(rt, length as u64)?;
-    print::last(
-        rt,
-        number(with(with(card, at, value), other, otherwise), length),
-    )
+    print!(rt; "{at}")?;
+    print!(rt; " {value}")?;
+    print!(rt; " {other}")?;
+    print!(rt; " {otherwise}")?;
+    print!(rt; " {length}")?;
+    let number = number(with(with(card, at, value), other, otherwise), length);
+    println!(rt; " {number}")
 }
 
 // The numbers that a card gets with each value of one byte, as runs of values: first, last, number.
@@ -46,20 +47,20 @@ fn runs(rt: &impl Print, card: [u8; 1024], at: usize) -> io::Result<()> {
         let value = last + 1;
         let next = number(with(card, at, value), 138);
         if next != same {
-            print::run(rt, first as u64, last as u64, same)?;
+            print!(rt; " {first}-{last}:{same}")?;
             first = value;
             same = next;
         }
     }
-    print::run(rt, first as u64, 255, same)
+    print!(rt; " {first}-255:{same}")
 }
 
 // A line for each byte of a stretch: its place, and the runs.
 fn sweep(rt: &impl Print, card: [u8; 1024], from: usize, to: usize) -> io::Result<()> {
     for at in from..to {
-        print::number(rt, at as u64)?;
+        print!(rt; "{at}")?;
         runs(rt, card, at)?;
-        print::end_line(rt)?;
+        println!(rt;)?;
     }
     Ok(())
 }
@@ -74,8 +75,8 @@ fn first_bytes(rt: &impl Print) -> io::Result<()> {
 
 // Production 10 with a kind, and with the rest as that kind has it.
 fn kind(rt: &impl Print, kind: u8, c: u8, g: u8) -> io::Result<()> {
-    print::text(rt, b"kind")?;
-    print::last(rt, kind as u64)?;
+    print!(rt; "kind")?;
+    println!(rt; " {kind}")?;
     sweep(
         rt,
         with(with(with(tomato(), 132, kind), 135, c), 136, g),
@@ -99,7 +100,7 @@ fn kinds(rt: &impl Print) -> io::Result<()> {
 // Words may be spelled alike, and hide no other fault. The second word spelled as the first: alone, cut to "coi", with a byte after its
 // end, and with another last letter.
 fn equal_words(rt: &impl Print) -> io::Result<()> {
-    print::text(rt, b"coir twice\n")?;
+    println!(rt; "coir twice")?;
     let twice = with(with(with(tomato(), 25, b'c'), 27, b'i'), 28, b'r');
     change(rt, twice, 24, 4, 28, b'r', 138)?;
     change(rt, twice, 24, 3, 28, 0, 138)?;
@@ -111,12 +112,12 @@ fn equal_words(rt: &impl Print) -> io::Result<()> {
     change(rt, twice, 77, 1, 77, 1, 138)?;
     change(rt, twice, 71, 1, 77, 1, 138)?;
     // The fifth word spelled as the second, up to its last letter and whole.
-    print::text(rt, b"wool twice\n")?;
+    println!(rt; "wool twice")?;
     let wool = with(with(tomato(), 61, b'w'), 62, b'o');
     change(rt, wool, 63, b'o', 64, b'h', 138)?;
     change(rt, wool, 63, b'o', 64, b'l', 138)?;
     // 32 words: alone, with a fault of 14 in the last entry, of 16 in the last production, and of both.
-    print::text(rt, b"all alike\n")?;
+    println!(rt; "all alike")?;
     let same = alike();
     change(rt, same, 4, 16, 5, 32, 780)?;
     change(rt, same, 384, 0, 384, 0, 780)?;
@@ -126,7 +127,7 @@ fn equal_words(rt: &impl Print) -> io::Result<()> {
 
 // Several faults: the refusal that comes first in the document's order is given.
 fn faults(rt: &impl Print) -> io::Result<()> {
-    print::text(rt, b"faults\n")?;
+    println!(rt; "faults")?;
     let card = tomato();
     change(rt, card, 12, 0, 72, 7, 138)?;
     change(rt, card, 71, 1, 72, 7, 138)?;
@@ -140,7 +141,7 @@ fn faults(rt: &impl Print) -> io::Result<()> {
 
 // Names on the right of a production and on the left of none (document 02, Paper 4).
 fn dead_names(rt: &impl Print) -> io::Result<()> {
-    print::text(rt, b"dead names\n")?;
+    println!(rt; "dead names")?;
     // A seventh name that stands nowhere; on the left alone; then as production 10's side and dependent, production 5's, and as both.
     let seven = with(tomato(), 4, 7);
     change(rt, seven, 4, 7, 4, 7, 138)?;
@@ -170,7 +171,7 @@ fn dead_names(rt: &impl Print) -> io::Result<()> {
 }
 
 fn limits(rt: &impl Print) -> io::Result<()> {
-    print::text(rt, b"largest\n")?;
+    println!(rt; "largest")?;
     let card = largest();
     change(rt, card, 4, 16, 5, 32, 780)?;
     change(rt, card, 4, 16, 5, 32, 779)?;

@@ -1,23 +1,29 @@
 // Name, number and part, for known and unknown words and for refused cards.
 use crate::cards::{alike, largest, tomato, with};
-use crate::print;
 use std::io;
+use std::io::Write;
 
 // A line: the length of the card, the word, the number, and the spelling.
 fn name(rt: &impl Print, card: [u8; 1024], length: usize, word: usize) -> io::Result<()> {
     if 1024 < length {
         return Ok(());
     }
-    print::number(rt, length as u64)?;
-    print::field(rt, word as u64)?;
-    print::field(rt, card::name_number(&card[..length], word))?;
-    print::text(rt, b" [")?;
-    print::text(rt, card::name(&card[..length], word))?;
-    print::text(rt, b"]\n")
+    print!(rt; "{length} {word} ")?;
+    match card::name(&card[..length], word) {
+        Ok(spelling) => {
+            print!(rt; "0 [")?;
+            io::writer(rt).write_all(spelling)?;
+        }
+        Err(refusal) => {
+            let number = u64::from(refusal);
+            print!(rt; "{number} [")?;
+        }
+    }
+    println!(rt; "]")
 }
 
 pub fn all(rt: &impl Print) -> io::Result<()> {
-    print::text(rt, b"names\n")?;
+    println!(rt; "names")?;
     name(rt, tomato(), 138, 0)?;
     name(rt, tomato(), 138, 1)?;
     name(rt, tomato(), 138, 2)?;

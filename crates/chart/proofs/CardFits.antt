@@ -1,4 +1,4 @@
--- What an accepted card gives the builder: where each production stands, that its rule keeps the counts, and that there are few.
+-- What an accepted card gives the builder: that each production's rule keeps the counts, and that there are few.
 -- All of it is by the card's acceptance.
 use Prim.Native.Nat.{ℕ, ◌≤◌, ◌<◌}
 use native.Mathlib.Omega.{arith}
@@ -8,10 +8,9 @@ use lib.ListN.{length}
 use Rattle.grammar.specs.Lists.{Stands}
 use Rattle.grammar.specs.Rewriting.{Rule, Lexical, Spine}
 use Rattle.grammar.proofs.StandsLaws.{stands-get_elem}
-use Rattle.layout.specs.Card.{max_nonterminals, max_productions, card_number, nonterminal_count, production_table, production_count, production, grammar_of}
+use Rattle.layout.specs.Card.{max_nonterminals, max_productions, card_number, nonterminal_count, production_count, production, grammar_of}
 use Rattle.layout.proofs.Accepting.{accepted-counts}
 use Rattle.layout.proofs.RuleLaws.{production-counted, rule-more}
-use Rattle.card.specs.Productions.{ProductionThere}
 use Rattle.chart_model.proofs.Exact.{left_of}
 use Rattle.steps.specs.Fits.{RuleFits}
 use Rattle.sets.proofs.CardRules.{rules-length, rule-in, few-rules}
@@ -24,9 +23,6 @@ module _ (card : List ℕ) (accepted : card_number card ≡ 0) where
   few-length = omega (arith, few-rules card accepted, rules-length card (production_count card))
 
   module _ (p : ℕ) (h : p < production_count card) where
-    pub production-there : {table : ℕ} → table ≡ production_table card → ProductionThere card table p
-    production-there e = record { accepted = accepted; starts = e; counted = h }
-
     pub production-fits : {N : ℕ} → N ≡ nonterminal_count card → RuleFits N (production card p)
     production-fits e =
         let few = accepted-counts card accepted in

@@ -8,18 +8,19 @@ use mathlib.Core.Bool.{Bool}
 use mathlib.Core.List.{List, []}
 use mathlib.Core.Option.{Option, some}
 use lib.ListN.{length}
+use Rattle.std.specs.Prelude.{Option as Answer, Some, None}
 use Rattle.grammar.specs.Rewriting.{Rule}
 use Rattle.grammar.specs.Chart.{Record}
 use Rattle.layout.specs.Bytes.{counted}
 use Rattle.chart_model.specs.Build.{places, bare_places, add_each, fill_cell}
-use Rattle.chart_model.proofs.FillModel.{IsCell, Grown, same, cell-grown, bare_at, places-own, bares-own, fresh-among}
+use Rattle.chart_model.proofs.FillModel.{IsCell, Grown, same, cell-grown, bare_at, places-own, fresh-among}
 use Rattle.records.specs.declared.cells.Range.{Range}
 use Rattle.records.specs.declared.record.OpenCell.{OpenCell}
 use Rattle.records.specs.Room.{chart_in, state_of}
-use Rattle.records.specs.Cells.{cell_at, with_range, bare_in, SpanFits}
+use Rattle.records.specs.Cells.{cell_at, number_of, numbered_by, with_range, bare_in, SpanFits}
 use Rattle.records.specs.Cover.{Covered, Advanced}
 use Rattle.records.proofs.RoomLaws.{chart-length, chart-kept-below}
-use Rattle.records.proofs.CellsLaws.{range_length, range-cover, indexed-ranges}
+use Rattle.records.proofs.CellsLaws.{number-back, range_length, range-cover, indexed-ranges}
 use Rattle.records.proofs.CoverLaws.{grown-has, grown-others, end-covered, covered-covers}
 use Rattle.sets.specs.Spans.{Noted}
 use Rattle.sets.proofs.ClassLaws.{classified-spans}
@@ -27,7 +28,7 @@ use Rattle.sets.proofs.SortedLaws.{sorted_more}
 use Rattle.chart.specs.Cell.{Finished}
 use Rattle.chart.specs.declared.build.Sizes.{Sizes}
 use Rattle.chart.specs.Fill.{Between, Filled, OpenedAt}
-use Rattle.chart.proofs.FillLaws.{state-some, bare_from-at, bare_from-le, indexed-more, marks-clear}
+use Rattle.chart.proofs.FillLaws.{state-some, state-over, bare_from-at, bare_from-le, own-bares, indexed-more, marks-clear}
 
 -- The struct of an opened cell in one piece.
 pub opened-is : {sizes : Sizes} {A i j base : ℕ} {cell : OpenCell} → OpenedAt sizes A i j base cell
@@ -54,23 +55,18 @@ opened-is o = λ k. record {
 
 -- An item did not fit: nothing more is promised.
 pub over-filled : {g : List Rule} {n N room after : ℕ} {s : Option (List Record)} {old new marks cells sets : List ℕ}
-    → length new ≡ length old → state_of room new after ≡ s → room < after → Filled g n N room s old new marks cells sets after
-over-filled a e l =
-    record {
-      same_room = a;
-      model = e;
-      rest = λ h. absurd (omega arith);
-      ready = λ h. absurd (omega arith);
-    }
+    → length new ≡ length old → state_of room new after ≡ s → room < after → Filled g n N room s old new marks cells sets None
+over-filled {room = room} {after} {new = new} a e l =
+    record { same_room = a; model = sym (state-over room after new e l); rest = tt; ready = tt }
 
 -- A range's numbers are counts.
 pub range_small : {chart old new : List ℕ} {base count : ℕ} {r : Range} → Finished chart base count old new r → base ≤ count
-    → count ≤ 65535 → (r.from < 65536) × (r.to < 65536) × (r.bare < 65536)
+    → count ≤ 65535 → (r.from < 65536) × (r.to < 65536) × (number_of r.bare < 65536)
 range_small {chart} {base = base} {count} f a b =
     let e = f.range in (
       omega (arith, ap (λ (x : Range). x.from) e),
       omega (arith, ap (λ (x : Range). x.to) e),
-      omega (arith, ap (λ (x : Range). x.bare) e, bare_from-le chart base (count - base)),
+      omega (arith, ap (λ (x : Range). number_of x.bare) e, bare_from-le chart base (count - base)),
     )
 
 -- A range with a place has places, and where no bare item was found there is none.
@@ -78,9 +74,9 @@ counted-some : (k m : ℕ) → 0 < m → counted k m ≡ [] → ⊥
 counted-some k zero l e = absurd (omega arith)
 counted-some k (suc m) l e = omega (arith, ap length e)
 
-bare-none : (m : ℕ) → bare_in m ≡ [] → m ≡ 0
-bare-none zero e = refl
-bare-none (suc m) e = absurd (omega (arith, ap length e))
+bare-none : (o : Answer ℕ) → bare_in o ≡ [] → number_of o ≡ 0
+bare-none None e = refl
+bare-none (Some m) e = absurd (omega (arith, ap length e))
 
 -- The cell of A over i to j was without records, and its candidates were added.
 module _ {g : List Rule} {n N room count after : ℕ} {old old_marks old_cells sets new marks cells : List ℕ} {rs : List Record} {A i j : ℕ}
@@ -91,17 +87,16 @@ module _ {g : List Rule} {n N room count after : ℕ} {old old_marks old_cells s
   covered-then fits grown = end-covered (advanced.covering fits) inside (grown-has grown) (grown-others grown) fresh
 
   -- Nothing was new: the room is as it was.
-  pub same-filled : after ≡ count → Filled g n N room (add_each room rs (some (chart_in old count))) old new marks cells sets after
-  same-filled e =
+  pub same-filled : after ≤ room → after ≡ count → Filled g n N room (add_each room rs (some (chart_in old count))) old new marks cells sets (Some after)
+  same-filled fits e =
       let a = advanced.added in
-      let fits : after ≤ room = omega (arith, b.count_fits) in
       let w = a.works fits in
       let kept : chart_in new after ≡ chart_in old count = rw e (chart-kept-below old new count count (le_refl count) a.kept) in
       record {
         same_room = a.same_room;
-        model = a.model;
-        rest = a.rest;
-        ready = λ _. record {
+        model = sym (state-some room after new a.model fits);
+        rest = a.rest fits;
+        ready = record {
           words_fit = w.words_fit;
           symbols_fit = w.symbols_fit;
           room_small = w.room_small;
@@ -121,31 +116,31 @@ module _ {g : List Rule} {n N room count after : ℕ} {old old_marks old_cells s
   -- It has records now: once its marks are gone, its range is in the table and its productions are noted.
   pub cell-filled : {cell : ℕ} {marks' cells' sets' : List ℕ} {r : Range} → Grown (IsCell A i j) (chart_in old count) (chart_in new after)
       → after ≤ room → (after ≡ count → ⊥) → Finished new count after marks marks' r → cell ≡ cell_at N A i j → 4 * cell + 4 ≤ length cells
-      → cells' ≡ with_range cells cell r → Noted n A i j r.bare sets sets'
-      → Filled g n N room (add_each room rs (some (chart_in old count))) old new marks' cells' sets' after
+      → cells' ≡ with_range cells cell r → Noted n A i j (number_of r.bare) sets sets'
+      → Filled g n N room (add_each room rs (some (chart_in old count))) old new marks' cells' sets' (Some after)
   cell-filled {cell} {sets' = sets'} {r} grown fits fuller done e there put noted =
       let a = advanced.added in
       let w = a.works fits in
       let few = chart-length old count in
       let many = chart-length new after in
       let long = a.grown in
-      let last : r.bare ≡ bare_at (chart_in new after) (length (chart_in old count)) (length (chart_in new after) - length (chart_in old count)) =
-      ap (λ (x : Range). x.bare) done.range ∙ (bare_from-at new after count (after - count) (omega arith) ∙ rw (few, many)) in
-      let small : r.bare ≤ after = omega (arith, ap (λ (x : Range). x.bare) done.range, bare_from-le new count (after - count)) in
+      let last : number_of r.bare ≡ bare_at (chart_in new after) (length (chart_in old count)) (length (chart_in new after) - length (chart_in old count)) =
+      ap (λ (x : Range). number_of x.bare) done.range ∙ (bare_from-at new after count (after - count) (omega arith) ∙ rw (few, many)) in
+      let small : number_of r.bare ≤ after = omega (arith, ap (λ (x : Range). number_of x.bare) done.range, bare_from-le new count (after - count)) in
       let from : r.from ≡ length (chart_in old count) = omega (arith, ap (λ (x : Range). x.from) done.range) in
       let to : r.to ≡ length (chart_in new after) = omega (arith, ap (λ (x : Range). x.to) done.range) in
       let size : length (chart_in new after) ≡ length (chart_in old count) + (length (chart_in new after) - length (chart_in old count)) =
       omega arith in
       let alone : bare_places (chart_in new after) A i j ≡ bare_in r.bare =
-      bares-own A i j bare_in refl (λ x. refl) fresh grown _ size ∙ ap bare_in (sym last) in
+      own-bares _ r.bare fresh grown size last in
       let some-there : places (chart_in new after) A i j ≡ [] → ⊥ =
       λ none. counted-some (length (chart_in old count)) (length (chart_in new after) - length (chart_in old count)) (omega arith)
       (sym (places-own A i j fresh grown _ size) ∙ none) in
       record {
         same_room = a.same_room;
-        model = a.model;
-        rest = a.rest;
-        ready = λ _. record {
+        model = sym (state-some room after new a.model fits);
+        rest = a.rest fits;
+        ready = record {
           words_fit = w.words_fit;
           symbols_fit = w.symbols_fit;
           room_small = w.room_small;
@@ -159,8 +154,8 @@ module _ {g : List Rule} {n N room count after : ℕ} {old old_marks old_cells s
               from to last (omega arith) (indexed-ranges advanced.same_cells advanced.same_ranges b.indexed));
           covered = rw put (covered-covers (range_length cells cell r) (range-cover cells cell r) (covered-then fits grown));
           classified = classified-spans b.classified noted.elsewhere;
-          sorted = sorted_more g n A i j (omega (arith, inside, b.symbols_fit)) inside.1 inside.2 grown sets sets' r.bare b.classified
-              b.sorted noted some-there (λ z. alone ∙ ap bare_in z) (λ d none. d (bare-none r.bare (sym alone ∙ none)));
+          sorted = sorted_more g n A i j (omega (arith, inside, b.symbols_fit)) inside.1 inside.2 grown sets sets' (number_of r.bare) b.classified
+              b.sorted noted some-there (λ z. alone ∙ ap bare_in (sym (number-back r.bare) ∙ ap numbered_by z)) (λ d none. d (bare-none r.bare (sym alone ∙ none)));
         };
       }
 

@@ -9,6 +9,7 @@ use mathlib.Core.Logic.{◌⊎◌, inl, inr}
 use mathlib.Core.Bool.{Bool, true, false, cond}
 use mathlib.Core.List.{List, [], map}
 use mathlib.Core.Option.{Option, none, some}
+use Rattle.std.specs.Prelude.{Option as Answer, Some}
 use lib.ListN.{length, take, get_or, replicate}
 use borrow.Author.Tests.{le-leb, lt-leb}
 use Rattle.grammar.specs.Rewriting.{Rule}
@@ -26,11 +27,11 @@ use Rattle.bits.proofs.BitLaws.{bit_of-zero, zero-at}
 use Rattle.records.specs.declared.cells.Range.{Range}
 use Rattle.records.specs.declared.record.OpenCell.{OpenCell}
 use Rattle.records.specs.Room.{chart_in, state_of, foot_there, FootFits, foot_number, numbered_chart, number_there, mark_of, Marked, Working}
-use Rattle.records.specs.Cells.{spans, cell_at, range_in, with_range, bare_in, SpanFits, Indexed}
+use Rattle.records.specs.Cells.{spans, cell_at, number_of, numbered_by, range_in, with_range, bare_in, SpanFits, Indexed}
 use Rattle.records.specs.Filling.{Filling}
 use Rattle.records.proofs.RoomLaws.{chart-length, foot-at, number-there}
 use Rattle.records.proofs.TableLaws.{cell_below, cell_same}
-use Rattle.records.proofs.CellsLaws.{range_length, range_same, range_other}
+use Rattle.records.proofs.CellsLaws.{number-back, range_length, range_same, range_other}
 use Rattle.records.proofs.CoverLaws.{start-covering, covered_start}
 use Rattle.sets.specs.Classes.{Classified}
 use Rattle.sets.specs.Spans.{Sorted}
@@ -87,18 +88,32 @@ pub state-over : {s : Option (List Record)} (room after : ℕ) (new : List ℕ) 
 state-over room after new e l = sym e ∙ rw lt-leb
 
 -- The last bare record's place, read from the bytes; and it is within what was counted.
-pub bare_from-at : (chart : List ℕ) (count base m : ℕ) → base + m ≤ count → bare_from chart base m ≡ bare_at (chart_in chart count) base m
+pub bare_from-at : (chart : List ℕ) (count base m : ℕ) → base + m ≤ count
+    → number_of (bare_from chart base m) ≡ bare_at (chart_in chart count) base m
 bare_from-at chart count base zero l = refl
 bare_from-at chart count base (suc m) l =
-    rw (foot-at chart count (base + m) (omega arith), bare_from-at chart count base m (omega arith))
+    rw (foot-at chart count (base + m) (omega arith))
+    (one (is_bare (foot_there chart (base + m))) (bare_from chart base m) (bare_from-at chart count base m (omega arith)))
+  where
+    one : (t : Bool) (o : Answer ℕ) {k : ℕ} → number_of o ≡ k → number_of (cond t (Some (base + m)) o) ≡ cond t (suc (base + m)) k
+    one true o e = refl
+    one false o e = e
 
-pub bare_from-le : (chart : List ℕ) (base m : ℕ) → bare_from chart base m ≤ base + m
+pub bare_from-le : (chart : List ℕ) (base m : ℕ) → number_of (bare_from chart base m) ≤ base + m
 bare_from-le chart base zero = omega arith
 bare_from-le chart base (suc m) = one (is_bare (foot_there chart (base + m))) (bare_from-le chart base m)
   where
-    one : (t : Bool) → bare_from chart base m ≤ base + m → cond t (suc (base + m)) (bare_from chart base m) ≤ base + suc m
+    one : (t : Bool) → number_of (bare_from chart base m) ≤ base + m
+        → number_of (cond t (Some (base + m)) (bare_from chart base m)) ≤ base + suc m
     one true h = omega arith
     one false h = omega arith
+
+-- The bare item of a cell that was without records, by the last bare record that was added.
+pub own-bares : {A i j : ℕ} {c b : List Record} (m : ℕ) (o : Answer ℕ) → places c A i j ≡ [] → Grown (IsCell A i j) c b
+    → length b ≡ length c + m → number_of o ≡ bare_at b (length c) m → bare_places b A i j ≡ bare_in o
+own-bares {A} {i} {j} m o fresh grown size last =
+    bares-own A i j (λ k. bare_in (numbered_by k)) refl (λ x. refl) fresh grown m size
+    ∙ ap bare_in (ap numbered_by (sym last) ∙ number-back o)
 
 -- The table of cells for a chart that one cell was added to, once its range is entered.
 abbrev Says : List Record → ℕ → ℕ → ℕ → Range → Type 0
@@ -106,7 +121,7 @@ Says b A i j r = (places b A i j ≡ counted r.from (r.to - r.from)) × (bare_pl
 
 module _ (n N A i j : ℕ) (inside : SpanFits n N A i j) {c b : List Record} (fresh : places c A i j ≡ []) (grown : Grown (IsCell A i j) c b)
     (cells : List ℕ) (r : Range) (there : 4 * cell_at N A i j + 4 ≤ length cells) (from : r.from ≡ length c) (to : r.to ≡ length b)
-    (last : r.bare ≡ bare_at b (length c) (length b - length c)) (small : r.bare ≤ length b) (old : Indexed n N c cells) where
+    (last : number_of r.bare ≡ bare_at b (length c) (length b - length c)) (small : number_of r.bare ≤ length b) (old : Indexed n N c cells) where
   abbrev new : List ℕ
   new = with_range cells (cell_at N A i j) r
 
@@ -116,7 +131,7 @@ module _ (n N A i j : ℕ) (inside : SpanFits n N A i j) {c b : List Record} (fr
       let size : length b ≡ length c + (length b - length c) = omega arith in
       subst (Says b A i j) (sym (range_same cells (cell_at N A i j) r there)) (
         places-own A i j fresh grown (length b - length c) size ∙ rw (from, to),
-        bares-own A i j bare_in refl (λ x. refl) fresh grown (length b - length c) size ∙ rw last,
+        own-bares (length b - length c) r.bare fresh grown size last,
       )
 
   says : (A' i' j' : ℕ) → A' < N → i' < j' → j' ≤ n → Says b A' i' j' (range_in new (cell_at N A' i' j'))
@@ -128,11 +143,11 @@ module _ (n N A i j : ℕ) (inside : SpanFits n N A i j) {c b : List Record} (fr
         (places-other A' i' j' out grown ∙ old.ranges A' i' j' x y z, bares-other A' i' j' out grown ∙ old.bares A' i' j' x y z)
   ]
 
-  within : (at : ℕ) → ((range_in new at).to ≤ length b) × ((range_in new at).bare ≤ length b)
+  within : (at : ℕ) → ((range_in new at).to ≤ length b) × (number_of (range_in new at).bare ≤ length b)
   within at = elim (ℕ_discrete at (cell_at N A i j)) [
-    | yes e ↦ subst (λ (x : ℕ). ((range_in new x).to ≤ length b) × ((range_in new x).bare ≤ length b)) (sym e)
-        (subst (λ (x : Range). (x.to ≤ length b) × (x.bare ≤ length b)) (sym (range_same cells (cell_at N A i j) r there)) (omega arith, small))
-    | no d ↦ subst (λ (x : Range). (x.to ≤ length b) × (x.bare ≤ length b)) (sym (range_other cells (cell_at N A i j) r at d)) (
+    | yes e ↦ subst (λ (x : ℕ). ((range_in new x).to ≤ length b) × (number_of (range_in new x).bare ≤ length b)) (sym e)
+        (subst (λ (x : Range). (x.to ≤ length b) × (number_of x.bare ≤ length b)) (sym (range_same cells (cell_at N A i j) r there)) (omega arith, small))
+    | no d ↦ subst (λ (x : Range). (x.to ≤ length b) × (number_of x.bare ≤ length b)) (sym (range_other cells (cell_at N A i j) r at d)) (
       omega (arith, old.to_within at, grown-length grown),
       omega (arith, old.bare_within at, grown-length grown),
     )
@@ -169,7 +184,7 @@ start_between {n = n} {N} {marks = marks} {cells} a b c d e f unmarked empty cla
       indexed = record {
         long = f;
         to_within = λ at. omega (arith, zeros (4 * at + 1));
-        bare_within = λ at. omega (arith, zeros (4 * at + 2));
+        bare_within = λ at. rw (zeros (4 * at + 2)) (omega arith);
         ranges = λ A i j x y z. rw (zeros (4 * cell_at N A i j), zeros (4 * cell_at N A i j + 1));
         bares = λ A i j x y z. rw (zeros (4 * cell_at N A i j + 2));
       };

@@ -12,6 +12,7 @@ use mathlib.Core.Option.{Option, some}
 use lib.Bits.{bit_and}
 use lib.Dec.{eqb}
 use lib.ListN.{get_or, get_elem?}
+use Rattle.std.specs.Prelude.{Option as Answer, Some}
 use borrow.Author.Tests.{ne_eqb, eqb-true}
 use Rattle.grammar.specs.Rewriting.{Rule, Lexical, Spine}
 use Rattle.grammar.specs.Names.{left_name}
@@ -27,16 +28,15 @@ use Rattle.bits.proofs.BitSets.{and_zero, bit-one}
 use Rattle.records.specs.declared.record.OpenCell.{OpenCell}
 use Rattle.records.specs.Room.{chart_in}
 use Rattle.sets.specs.Places.{splits_at, OnlyMeeting, OnlySpans}
-use Rattle.sets.specs.Classes.{Classified, NextLeft}
+use Rattle.sets.specs.Classes.{Classified}
 use Rattle.sets.specs.Spans.{FirstAbsent, SecondAbsent, Splits}
 use Rattle.sets.proofs.ClassLaws.{WordRule, word-has, own-has, classified-meeting}
 use Rattle.sets.proofs.SortedLaws.{absent-first, absent-second, not_own, sorted-meeting, met-splits, splits-spans}
 use Rattle.chart.specs.Cell.{CellSet}
 use Rattle.chart.specs.declared.build.Sizes.{Sizes}
 use Rattle.chart.specs.Fill.{Between, Filled, Ready, FilledTo, OpenedAt, Fillable, filled_cell, SpanSet}
-use Rattle.chart.proofs.FillLaws.{state-some}
 use Rattle.chart.proofs.FillCells.{opened-is}
-use Rattle.chart.proofs.FillFolds.{fold-pass}
+use Rattle.chart.proofs.FillFolds.{fold-skip}
 
 -- A word rule of another nonterminal, and one for a word that does not stand there, make no records.
 module _ (at : ℕ → ℕ → Bool) (A i p : ℕ) where
@@ -174,17 +174,15 @@ fresh-turn : {b : List Record} (c : List Record) (room : ℕ) (g : List Rule) (a
 fresh-turn c room g at i j A fresh q =
     places-other A i j (λ (u, v, w). omega arith) (span-grown room g at (j - i) i A q) ∙ fresh
 
--- The nonterminals up to the next that has a production in the span's set.
-pub span-pass : {g : List Rule} {n N count total : ℕ} {chart marks cells sets places mid marks' cells' sets' : List ℕ} {i j set : ℕ}
-    (room : ℕ) → Between g n N room chart marks cells sets count → SpanSet places i j sets set → i < j → j ≤ n → OnlySpans sets sets'
-    → (m A : ℕ) → NextLeft sets' set m N A → total ≤ room
+-- A nonterminal that has no production in the span's set is passed over.
+pub span-skip : {g : List Rule} {n N room count total : ℕ} {chart marks cells sets places mid marks' cells' sets' : List ℕ} {i j set : ℕ}
+    → Between g n N room chart marks cells sets count → SpanSet places i j sets set → i < j → j ≤ n → OnlySpans sets sets'
+    → (A : ℕ) → A < N → bit_and (get_or sets' A 0) set ≡ 0
     → let f = fill_cell room g (word_test places) (j - i) i in
-    Filled g n N room (fold_up f m (some (chart_in chart count))) chart mid marks' cells' sets' total
-    → Filled g n N room (fold_up f A (some (chart_in chart count))) chart mid marks' cells' sets' total
-span-pass {g} {places = places} {mid} {sets' = sets'} {i = i} {j} room b found ij jn only m A next fits sofar =
-    fold-pass (fill_cell room g (word_test places) (j - i) i) m A _ next.later sofar fits
-    (λ l u v. idle-turn room b found ij jn m (state-some room _ mid sofar.model fits) sets' only l (omega (arith, next.within))
-    (next.passed l u v))
+    Filled g n N room (fold_up f A (some (chart_in chart count))) chart mid marks' cells' sets' (Some total)
+    → Filled g n N room (fold_up f (A + 1) (some (chart_in chart count))) chart mid marks' cells' sets' (Some total)
+span-skip {g} {room = room} {places = places} {sets' = sets'} {i = i} {j} b found ij jn only A l z sofar =
+    fold-skip (fill_cell room g (word_test places) (j - i) i) A _ sofar (idle-turn room b found ij jn A (sym sofar.model) sets' only A l z)
 
 -- The turn of a cell in a span.
 abbrev pub cell_turn : List ℕ → List ℕ → Sizes → ℕ → ℕ → ℕ → Option (List Record) → Option (List Record)
@@ -195,14 +193,14 @@ module _ {sizes : Sizes} {total i j A : ℕ} {cell : OpenCell} (opened : OpenedA
   pub turn-fillable : {card chart marks cells sets places mid marks' cells' sets' : List ℕ} {count set : ℕ}
       → Ready card sizes chart marks cells sets count → SpanSet places i j sets set → i < j → j ≤ sizes.words
       → ((B : ℕ) → positions (chart_in chart count) B i j ≡ []) → OnlySpans sets sets'
-      → FilledTo card sizes (fold_up (cell_turn card places sizes i j) A (some (chart_in chart count))) chart mid marks' cells' sets' total
-      → total ≤ sizes.room → A < sizes.symbols → Fillable card places cell mid marks' cells' sets' (bit_and (get_or sets' A 0) set)
-  turn-fillable {card} {chart} {places = places} {mid} {marks'} {cells'} {sets'} {count} {set} r found ij jn empty only sofar fits l =
+      → FilledTo card sizes (fold_up (cell_turn card places sizes i j) A (some (chart_in chart count))) chart mid marks' cells' sets' (Some total)
+      → A < sizes.symbols → Fillable card places cell mid marks' cells' sets' (bit_and (get_or sets' A 0) set)
+  turn-fillable {card} {chart} {places = places} {mid} {marks'} {cells'} {sets'} {count} {set} r found ij jn empty only sofar l =
       let b = r.between in
-      let state = state-some sizes.room total mid sofar.model fits in
+      let state = sym sofar.model in
       subst (λ (x : OpenCell). Fillable card places x mid marks' cells' sets' (bit_and (get_or sets' A 0) set)) (sym (opened-is opened))
       record {
-        between = sofar.ready fits;
+        between = sofar.ready;
         inside = (l, ij, jn);
         numbered = refl;
         fresh = fresh-turn (chart_in chart count) sizes.room (grammar_of card) (word_test places) i j A (empty A) state;
@@ -215,7 +213,7 @@ module _ {sizes : Sizes} {total i j A : ℕ} {cell : OpenCell} (opened : OpenedA
         set_for = turn-set sizes.room b found ij jn A state sets' only A l;
       }
 
-  pub turn-filled : {after : ℕ} (card places : List ℕ) {mid new marks cells sets : List ℕ}
+  pub turn-filled : {after : Answer ℕ} (card places : List ℕ) {mid new marks cells sets : List ℕ}
       → Filled (grammar_of card) cell.words cell.symbols cell.room (filled_cell card places cell mid) mid new marks cells sets after
       → FilledTo card sizes (cell_turn card places sizes i j A (some (chart_in mid total))) mid new marks cells sets after
   turn-filled {after} card places {mid} {new} {marks} {cells} {sets} f =

@@ -2,11 +2,11 @@
 -- item that was met is the cell's.
 use Prim.Native.Nat.{ℕ, suc, ◌+◌, ◌-◌, ◌/◌, ◌≤◌, ◌<◌}
 use native.Mathlib.Omega.{arith}
-use native.Mathlib.Numerals.{add-one}
 use native.Mathlib.Decide.{dec_lt, ℕ_discrete}
-use mathlib.Core.Path.{◌≡◌, refl, sym, ◌∙◌, ap, ap₂, subst}
+use mathlib.Core.Path.{◌≡◌, refl, sym, ◌∙◌, ap, subst}
 use mathlib.Core.Bool.{cond}
 use mathlib.Core.List.{List}
+use Rattle.std.specs.Prelude.{Option, Some, None}
 use lib.ListN.{length, get_or, set, length-set}
 use lib.Seq.{set_out, get_or-set_same, get_or-set_other}
 use borrow.Author.Tests.{eq-eqb, ne_eqb}
@@ -27,25 +27,27 @@ still-clear l at s e = elim (ℕ_discrete s at) [
 ]
 
 -- A foot with index 0 is bare, and no other is.
-pub found-bare : (f : declared.Foot) (φ : Foot) (m found : ℕ) → foot_from f ≡ φ → f.index ≡ 0 → m ≡ cond (is_bare φ) m found
+pub found-bare : (f : declared.Foot) (φ : Foot) (m : ℕ) (found : Option ℕ) → foot_from f ≡ φ → f.index ≡ 0
+    → Some m ≡ cond (is_bare φ) (Some m) found
 found-bare f φ m found e z = rw (← e, eq-eqb f.index 0 z)
 
-pub found-foot : (f : declared.Foot) (φ : Foot) (m found : ℕ) → foot_from f ≡ φ → (f.index ≡ 0 → ⊥) → found ≡ cond (is_bare φ) m found
+pub found-foot : (f : declared.Foot) (φ : Foot) (m : ℕ) (found : Option ℕ) → foot_from f ≡ φ → (f.index ≡ 0 → ⊥)
+    → found ≡ cond (is_bare φ) (Some m) found
 found-foot f φ m found e d = rw (← e, ne_eqb f.index 0 d)
 
 -- The bare item among one record more.
-bare-more : (chart : List ℕ) (base m found next : ℕ) → base ≤ m → found ≡ bare_from chart base (m - base)
-    → next ≡ cond (is_bare (foot_there chart m)) (m + 1) found → next ≡ bare_from chart base (m + 1 - base)
+bare-more : (chart : List ℕ) (base m : ℕ) (found next : Option ℕ) → base ≤ m → found ≡ bare_from chart base (m - base)
+    → next ≡ cond (is_bare (foot_there chart m)) (Some m) found → next ≡ bare_from chart base (m + 1 - base)
 bare-more chart base m found next l e f =
     let more : suc (m - base) ≡ m + 1 - base = omega arith in
     let here : m ≡ base + (m - base) = omega arith in
-    f ∙ ap₂ (cond (is_bare (foot_there chart m))) (add-one m) e
-    ∙ ap (λ k. cond (is_bare (foot_there chart k)) (suc k) (bare_from chart base (m - base))) here
+    f ∙ ap (cond (is_bare (foot_there chart m)) (Some m)) e
+    ∙ ap (λ (k : ℕ). cond (is_bare (foot_there chart k)) (Some k) (bare_from chart base (m - base))) here
     ∙ ap (bare_from chart base) more
 
 -- What holds of the records from the base to m: of none, of all, of one more.
 module _ (chart : List ℕ) (base : ℕ) where
-  pub finish-start : (marks : List ℕ) → Finished chart base base marks marks (record { from = base; to = base; bare = 0 })
+  pub finish-start : (marks : List ℕ) → Finished chart base base marks marks (record { from = base; to = base; bare = None })
   finish-start marks = record {
     same_length = refl;
     range = ap (λ m. record { from = base; to = base; bare = bare_from chart base m }) none;
@@ -57,7 +59,7 @@ module _ (chart : List ℕ) (base : ℕ) where
       none : 0 ≡ base - base
       none = omega arith
 
-  pub finish-end : {m count found : ℕ} {old new : List ℕ} → m ≤ count → count ≤ m
+  pub finish-end : {m count : ℕ} {found : Option ℕ} {old new : List ℕ} → m ≤ count → count ≤ m
       → Finished chart base m old new (record { from = base; to = m; bare = found })
       → Finished chart base count old new (record { from = base; to = count; bare = found })
   finish-end {m} {count} {found} {old} {new} a b f =
@@ -66,10 +68,10 @@ module _ (chart : List ℕ) (base : ℕ) where
       same : m ≡ count
       same = omega arith
 
-  module _ {m found next : ℕ} {old mid new : List ℕ} (l : base ≤ m)
+  module _ {m : ℕ} {found next : Option ℕ} {old mid new : List ℕ} (l : base ≤ m)
       (f : Finished chart base m old mid (record { from = base; to = m; bare = found }))
       (inside : number_there chart m / 8 < length mid) (e : new ≡ set mid (number_there chart m / 8) 0)
-      (b : next ≡ cond (is_bare (foot_there chart m)) (m + 1) found) where
+      (b : next ≡ cond (is_bare (foot_there chart m)) (Some m) found) where
     clear : (s : ℕ) → get_or mid s 0 ≡ 0 → get_or new s 0 ≡ 0
     clear s z = ap (λ t. get_or t s 0) e ∙ still-clear mid (number_there chart m / 8) s z
 

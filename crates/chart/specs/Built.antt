@@ -1,5 +1,5 @@
 -- What the builder asks and promises.
-use Rattle.std.specs.Prelude.{ℕ, ◌*◌, ◌≤◌, ◌<◌, ◌≡◌, Bool, cond, List, ◌++◌, length, drop, replicate}
+use Rattle.std.specs.Prelude.{ℕ, ◌*◌, ◌≤◌, ◌<◌, ◌≡◌, Bool, cond, List, ◌++◌, length, drop, replicate, Option, Some, None}
 use Rattle.grammar.specs.Input.{Holds, Below}
 use Rattle.grammar.specs.ItemList.{items}
 use Rattle.grammar.specs.Chart.{Record, IsChart}
@@ -13,8 +13,6 @@ use Rattle.chart_model.specs.Build.{build}
 use Rattle.records.specs.Cells.{spans}
 use Rattle.sets.specs.Places.{set_count}
 use Rattle.chart.specs.Fill.{Closed}
-use Rattle.chart.specs.declared.Built.{Built}
-use Rattle.chart.specs.declared.Built.TheVariants.{Chart, TooMany}
 
 -- An accepted card, and sets of words at no more places than a line may have, none past the first n.
 pub record Buildable (card places : List ℕ) (n : ℕ) : Type 0 where
@@ -22,39 +20,37 @@ pub record Buildable (card places : List ℕ) (n : ℕ) : Type 0 where
   pub short : n ≤ most_words
   pub below : Below (Holds (word_test places)) n
 
--- A room for so many records; and tables for n words under N nonterminals, all 0.
+-- A room for so many records.
 pub record RoomLent (room : ℕ) (chart : List ℕ) : Type 0 where
   pub small : room ≤ 65535
   pub there : record_length * room ≤ length chart
+
+-- Lengths that are enough for n words under N nonterminals; and tables of such lengths, all 0.
+pub record LongEnough (n N marks cells sets : ℕ) : Type 0 where
+  pub marks_there : spans n * N < marks
+  pub cells_there : 4 * (spans n * N) ≤ cells
+  pub sets_there : set_count n ≤ sets
 
 pub record TablesLent (n N : ℕ) (marks cells sets : List ℕ) : Type 0 where
   pub marks_zero : marks ≡ replicate (length marks) 0
   pub cells_zero : cells ≡ replicate (length cells) 0
   pub sets_zero : sets ≡ replicate (length sets) 0
-  pub marks_there : spans n * N < length marks
-  pub cells_there : 4 * (spans n * N) ≤ length cells
-  pub sets_there : set_count n ≤ length sets
+  pub long : LongEnough n N (length marks) (length cells) (length sets)
 
--- What a builder for lines of so many words and cards of so many nonterminals asks, and what each builder promises.
-pub record Sized (most_words most_names : ℕ) (card places : List ℕ) (n room : ℕ) (chart : List ℕ) : Type 0 where
-  pub buildable : Buildable card places n
-  pub lent : RoomLent room chart
-  pub words : n ≤ most_words
-  pub names : nonterminal_count card ≤ most_names
-
-abbrev pub ClosedIn : List ℕ → List ℕ → ℕ → ℕ → List ℕ → List ℕ → ℕ → Type 0
+-- The chart of n words was built in a room for so many records.
+abbrev pub ClosedIn : List ℕ → List ℕ → ℕ → ℕ → List ℕ → List ℕ → Option ℕ → Type 0
 ClosedIn card places n room old new after =
     Closed n (nonterminal_count card) room (build room (grammar_of card) (word_test places) (nonterminal_count card) n) old new after
 
 -- Document 01's number and count of items for each answer. Whether a line with a chart is read or has no reading, 0 or 25, is seen only when
 -- the start is looked for in it; till then its number is 0.
-abbrev pub built_number : Built → ℕ
-built_number (Chart count) = 0
-built_number TooMany = 31
+abbrev pub built_number : Option ℕ → ℕ
+built_number None = 31
+built_number (Some count) = 0
 
-abbrev pub built_items : Built → ℕ
-built_items (Chart count) = count
-built_items TooMany = 0
+abbrev pub built_items : Option ℕ → ℕ
+built_items None = 0
+built_items (Some count) = count
 
 -- The room as the state has it; the chart is one with first steps, so that unfolding it gives the first plan.
 abbrev pub FirstChart : List ℕ → (ℕ → ℕ → Bool) → ChartState → List ℕ → List ℕ → Type 0
@@ -66,7 +62,7 @@ FirstChart card at untouched before after = after ≡ before
 
 -- 31 exactly where the derivable items outnumber what the room holds, and else how many they are; the room is as this number has it. The
 -- line is read through a test of the words at its places.
-pub record BuiltRoom (card : List ℕ) (at : ℕ → ℕ → Bool) (n : ℕ) (b : Built) (old new : List ℕ) : Type 0 where
+pub record BuiltRoom (card : List ℕ) (at : ℕ → ℕ → Bool) (n : ℕ) (b : Option ℕ) (old new : List ℕ) : Type 0 where
   pub number : built_number b ≡ cond (outnumber (items (grammar_of card) at n) (length old)) 31 0
   pub count : built_items b
       ≡ cond (outnumber (items (grammar_of card) at n) (length old)) 0 (length (items (grammar_of card) at n))

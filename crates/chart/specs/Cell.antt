@@ -1,5 +1,6 @@
 -- One cell: what its functions ask, and the records that they may add.
 use Rattle.std.specs.Prelude.{ℕ, zero, suc, ◌+◌, ◌-◌, ◌/◌, ◌≤◌, ◌<◌, ◌≡◌, Bool, false, cond, ◌&&◌, eqb, length, get_or}
+use Rattle.std.specs.Prelude.{Option as Answer, Some, None}
 use mathlib.Core.List.{List, [], Memᴰ}
 use Rattle.std.proofs.Math.Option.{some}
 use Rattle.std.proofs.Math.ListN.{get_elem?}
@@ -65,9 +66,9 @@ is_word_of A words (Lexical A' w) = eqb A' A && holds_bit w words
 is_word_of A words (Spine A' a before D after) = false
 
 -- A cell is finished: no mark is left of its records from base on, other marks are as they were, and its range is known.
-abbrev pub bare_from : List ℕ → ℕ → ℕ → ℕ
-bare_from chart base zero = 0
-bare_from chart base (suc m) = cond (is_bare (foot_there chart (base + m))) (suc (base + m)) (bare_from chart base m)
+abbrev pub bare_from : List ℕ → ℕ → ℕ → Answer ℕ
+bare_from chart base zero = None
+bare_from chart base (suc m) = cond (is_bare (foot_there chart (base + m))) (Some (base + m)) (bare_from chart base m)
 
 pub record Finished (chart : List ℕ) (base count : ℕ) (old new : List ℕ) (r : Range) : Type 0 where
   pub same_length : length new ≡ length old

@@ -1,5 +1,6 @@
 -- What holds between two cells, and what filling cells promises.
 use Rattle.std.specs.Prelude.{ℕ, ◌+◌, ◌-◌, ◌*◌, ◌≤◌, ◌<◌, ◌≡◌, false, List, [], ◌++◌, length, take, drop, get_or}
+use Rattle.std.specs.Prelude.{Option as Answer, Some, None, IfSome}
 use Rattle.std.proofs.Math.Option.{Option, none, some}
 use Rattle.grammar.specs.Rewriting.{Rule}
 use Rattle.grammar.specs.Items.{Foot}
@@ -8,7 +9,7 @@ use Rattle.layout.specs.Card.{max_nonterminals, card_number, nonterminal_count, 
 use Rattle.layout.specs.Line.{most_words}
 use Rattle.places.specs.Places.{word_test}
 use Rattle.chart_model.specs.Build.{places as positions, fill_cell}
-use Rattle.records.specs.Room.{chart_in, state_of, FootFits, FeetFit, numbered_chart, mark_of}
+use Rattle.records.specs.Room.{chart_in, FootFits, FeetFit, numbered_chart, mark_of}
 use Rattle.records.specs.Cells.{spans, cell_at, SpanFits, Indexed}
 use Rattle.records.specs.Cover.{Covered}
 use Rattle.records.specs.Filling.{begun_with}
@@ -34,12 +35,18 @@ pub record Between (g : List Rule) (n N room : ℕ) (chart marks cells sets : Li
   pub classified : Classified g sets
   pub sorted : Sorted g n (chart_in chart count) sets
 
+-- The records in a room by what the code answers: how many they are, or that an item did not fit.
+abbrev pub held : List ℕ → Answer ℕ → Option (List Record)
+held room None = none
+held room (Some count) = some (chart_in room count)
+
 -- Cells were filled: the room holds what the model has, the bytes past it are as they were, and the tables agree again.
-pub record Filled (g : List Rule) (n N room : ℕ) (s : Option (List Record)) (old new marks cells sets : List ℕ) (after : ℕ) : Type 0 where
+pub record Filled (g : List Rule) (n N room : ℕ) (s : Option (List Record)) (old new marks cells sets : List ℕ) (after : Answer ℕ)
+    : Type 0 where
   pub same_room : length new ≡ length old
-  pub model : state_of room new after ≡ s
-  pub rest : after ≤ room → drop (16 * after) new ≡ drop (16 * after) old
-  pub ready : after ≤ room → Between g n N room new marks cells sets after
+  pub model : held new after ≡ s
+  pub rest : IfSome after (λ count. drop (16 * count) new ≡ drop (16 * count) old)
+  pub ready : IfSome after (λ count. Between g n N room new marks cells sets count)
 
 -- The same for a line and a card of such sizes.
 pub record Ready (card : List ℕ) (sizes : Sizes) (chart marks cells sets : List ℕ) (count : ℕ) : Type 0 where
@@ -47,7 +54,7 @@ pub record Ready (card : List ℕ) (sizes : Sizes) (chart marks cells sets : Lis
   pub names : sizes.symbols ≡ nonterminal_count card
   pub between : Between (grammar_of card) sizes.words sizes.symbols sizes.room chart marks cells sets count
 
-abbrev pub FilledTo : List ℕ → Sizes → Option (List Record) → List ℕ → List ℕ → List ℕ → List ℕ → List ℕ → ℕ → Type 0
+abbrev pub FilledTo : List ℕ → Sizes → Option (List Record) → List ℕ → List ℕ → List ℕ → List ℕ → List ℕ → Answer ℕ → Type 0
 FilledTo card sizes s old new marks cells sets after =
     Filled (grammar_of card) sizes.words sizes.symbols sizes.room s old new marks cells sets after
 
@@ -83,8 +90,7 @@ pub record SpanSet (places : List ℕ) (i j : ℕ) (sets : List ℕ) (set : ℕ)
 
 -- All spans are closed: the room holds the model's chart, its records with the numbers of their feet, and then what was there; or an
 -- item did not fit.
-pub record Closed (n N room : ℕ) (s : Option (List Record)) (old new : List ℕ) (after : ℕ) : Type 0 where
+pub record Closed (n N room : ℕ) (s : Option (List Record)) (old new : List ℕ) (after : Answer ℕ) : Type 0 where
   pub same_room : length new ≡ length old
-  pub over : s ≡ none → room < after
-  pub charted : (c : List Record) → s ≡ some c
-      → (after ≡ length c) × (c ≡ chart_in new after) × (new ≡ numbered_chart n N c ++ drop (16 * length c) old)
+  pub model : held new after ≡ s
+  pub charted : IfSome after (λ count. (count ≤ room) × (new ≡ numbered_chart n N (chart_in new count) ++ drop (16 * count) old))

@@ -10,8 +10,8 @@ ghost use Rattle.sets.specs.Places.{OnlyMeeting, OnlySpans};
 ghost use Rattle.sets.specs.Spans.{Rows};
 ghost use Rattle.chart.specs.Fill.{Filled, Ready, FilledTo, OpenedAt, Fillable, filled_cell, SpanSet, Closed};
 
-use octets::wide;
-use places::MOST_WORDS;
+use card::Card;
+use places::Words;
 use records::record::OpenCell;
 
 // The line's words, the card's nonterminals, and the items that the room holds.
@@ -41,50 +41,45 @@ fn open_cell(sizes: Sizes, a: usize, i: usize, j: usize, base: usize) -> OpenCel
 }
 
 // One cell: its records, and then its place in the tables. The set has every production that can add to it.
+// The room and the tables are no struct here and below, for the reason at `records::add`.
 fn fill_cell(
     chart: &mut [u8],
     marks: &mut [u8],
     cells: &mut [u16],
     sets: &mut [u64],
     cell: OpenCell,
-    card: &[u8],
-    places: &[u32; MOST_WORDS],
+    card: Card,
+    words: &Words,
     set: u64,
-) -> usize
-    requires { Fillable card.now places.now cell chart.old marks.old cells.old sets.old set }
-    ensures { Filled (grammar_of card.now) cell.words cell.symbols cell.room
-        (filled_cell card.now places.now cell chart.old)
+) -> Option<usize>
+    requires { Fillable card.bytes.now words.now.places cell chart.old marks.old cells.old sets.old set }
+    ensures { Filled (grammar_of card.entry.bytes.now) cell.words cell.symbols cell.room
+        (filled_cell card.entry.bytes.now words.now.places cell chart.old)
         chart.old chart.new marks.new cells.new sets.new result
         × OnlySpans sets.old sets.new }
 {
-    let base = cell.base;
-    let total = crate::cell::fill_items(chart, marks, cells, sets, cell, card, places, set, base);
-    if cell.room < total {
-        return total;
+    let total = crate::cell::fill_items(chart, marks, cells, sets, cell, card, words, set)?;
+    if total != cell.base {
+        let range = crate::cell::finish(chart, marks, cell, total);
+        records::cells::put_range(cells, cell.number, range);
+        sets::note(sets, cell, range.bare);
     }
-    if total == base {
-        return total;
-    }
-    let range = crate::cell::finish(chart, marks, cell, total);
-    records::cells::put_range(cells, cell.number, range);
-    sets::note(sets, cell, range.bare);
-    total
+    Some(total)
 }
 
 // What can add to a span: the word productions for the words of its place, or those with both elements at some split.
-fn span_set(sets: &mut [u64], n: usize, i: usize, j: usize, places: &[u32; MOST_WORDS]) -> u64
+fn span_set(sets: &mut [u64], n: usize, i: usize, j: usize, words: &Words) -> u64
     requires { (n ≤ most_words) × (i < j) × (j ≤ n) × Rows n sets.old }
-    ensures { SpanSet places.now i j sets.new result × OnlyMeeting sets.old sets.new }
+    ensures { SpanSet words.now.places i j sets.new result × OnlyMeeting sets.old sets.new }
 {
     if j - i == 1 {
-        let words = places[i];
         sets::meet_none(sets);
-        return sets::of_words(sets, words);
+        return sets::of_words(sets, words.places[i]);
     }
     sets::meet(sets, n, i, j)
 }
 
-// One span, from one nonterminal that has a production in the span's set to the next. The others add nothing.
+// One span, nonterminal by nonterminal. One that has no production in the span's set adds nothing.
 fn close_span(
     chart: &mut [u8],
     marks: &mut [u8],
@@ -93,34 +88,31 @@ fn close_span(
     sizes: Sizes,
     i: usize,
     j: usize,
-    card: &[u8],
-    places: &[u32; MOST_WORDS],
+    card: Card,
+    words: &Words,
     count: usize,
-) -> usize
-    requires { Ready card.now sizes chart.old marks.old cells.old sets.old count × (i < j) × (j ≤ sizes.words)
+) -> Option<usize>
+    requires { Ready card.bytes.now sizes chart.old marks.old cells.old sets.old count × (i < j) × (j ≤ sizes.words)
         × ((A : ℕ) → positions (chart_in chart.old count) A i j ≡ []) }
-    ensures { FilledTo card.now sizes
-        (close_span sizes.room (grammar_of card.now) (word_test places.now) sizes.symbols (j - i) i
+    ensures { FilledTo card.entry.bytes.now sizes
+        (close_span sizes.room (grammar_of card.entry.bytes.now) (word_test words.now.places) sizes.symbols (j - i) i
         (some (chart_in chart.old count)))
         chart.old chart.new marks.new cells.new sets.new result }
 {
-    let set = span_set(sets, sizes.words, i, j, places);
+    let set = span_set(sets, sizes.words, i, j, words);
     if set == 0 {
-        return count;
+        return Some(count);
     }
-    let symbols = sizes.symbols;
-    let mut a = sets::next_left(sets, set, 0, symbols);
     let mut total = count;
-    while a < symbols {
+    for a in 0..sizes.symbols {
         let productions = sets[a] & set;
-        let cell = open_cell(sizes, a, i, j, total);
-        total = fill_cell(chart, marks, cells, sets, cell, card, places, productions);
-        if sizes.room < total {
-            return total;
+        if productions == 0 {
+            continue;
         }
-        a = sets::next_left(sets, set, a + 1, symbols);
+        let cell = open_cell(sizes, a, i, j, total);
+        total = fill_cell(chart, marks, cells, sets, cell, card, words, productions)?;
     }
-    total
+    Some(total)
 }
 
 // The spans that end at e + 1, from the shortest: each rests on those before it, and on earlier ends.
@@ -131,38 +123,33 @@ fn close_end(
     sets: &mut [u64],
     sizes: Sizes,
     e: usize,
-    card: &[u8],
-    places: &[u32; MOST_WORDS],
+    card: Card,
+    words: &Words,
     count: usize,
-) -> usize
-    requires { Ready card.now sizes chart.old marks.old cells.old sets.old count × (e < sizes.words)
+) -> Option<usize>
+    requires { Ready card.bytes.now sizes chart.old marks.old cells.old sets.old count × (e < sizes.words)
         × ((A i : ℕ) → positions (chart_in chart.old count) A i (e + 1) ≡ []) }
-    ensures { FilledTo card.now sizes
-        (close_end sizes.room (grammar_of card.now) (word_test places.now) sizes.symbols e
+    ensures { FilledTo card.entry.bytes.now sizes
+        (close_end sizes.room (grammar_of card.entry.bytes.now) (word_test words.now.places) sizes.symbols e
         (some (chart_in chart.old count)))
         chart.old chart.new marks.new cells.new sets.new result }
 {
-    let mut m = 0;
     let mut total = count;
-    while m <= e {
+    for i in (0..=e).rev() {
         total = close_span(
             chart,
             marks,
             cells,
             sets,
             sizes,
-            e - m,
+            i,
             e + 1,
             card,
-            places,
+            words,
             total,
-        );
-        if sizes.room < total {
-            return total;
-        }
-        m += 1;
+        )?;
     }
-    total
+    Some(total)
 }
 
 // All ends, from the left. The tables are lent, and are 0 at the start but for the sets of the card's productions.
@@ -172,22 +159,17 @@ pub fn close_all(
     cells: &mut [u16],
     sets: &mut [u64],
     sizes: Sizes,
-    card: &[u8],
-    places: &[u32; MOST_WORDS],
-) -> usize
-    requires { Ready card.now sizes chart.old marks.old cells.old sets.old 0 }
+    card: Card,
+    words: &Words,
+) -> Option<usize>
+    requires { Ready card.bytes.now sizes chart.old marks.old cells.old sets.old 0 }
     ensures { Closed sizes.words sizes.symbols sizes.room
-        (build sizes.room (grammar_of card.now) (word_test places.now) sizes.symbols sizes.words)
+        (build sizes.room (grammar_of card.entry.bytes.now) (word_test words.now.places) sizes.symbols sizes.words)
         chart.old chart.new result }
 {
-    let mut e = 0;
     let mut total = 0;
-    while e < sizes.words {
-        total = close_end(chart, marks, cells, sets, sizes, e, card, places, total);
-        if sizes.room < total {
-            return total;
-        }
-        e += 1;
+    for e in 0..sizes.words {
+        total = close_end(chart, marks, cells, sets, sizes, e, card, words, total)?;
     }
-    total
+    Some(total)
 }

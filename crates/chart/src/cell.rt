@@ -7,8 +7,7 @@ ghost use Rattle.records.specs.Filling.{begun_with, WorksOn, AddedTo, Filling, A
 ghost use Rattle.chart.specs.Cell.{splits_add, rule_adds, cell_adds, CellGiven, Turn, SetFor, one_of, is_word_of, Finished};
 
 use card::{Card, Production};
-use octets::wide;
-use places::MOST_WORDS;
+use places::Words;
 use records::cells::Range;
 use records::record::{Foot, NOWHERE, OpenCell, Origin};
 
@@ -16,26 +15,7 @@ use records::record::{Foot, NOWHERE, OpenCell, Origin};
 fn is_word(rule: Production, a: u8, words: u32) -> bool
     ensures { result ≡ is_word_of a words (rule_from rule) }
 {
-    match rule {
-        Production::Word { left, word } => {
-            if left != a {
-                return false;
-            }
-            bits::has(words, word)
-        }
-        Production::SideFirst {
-            left: _,
-            action: _,
-            side: _,
-            dependent: _,
-        } => false,
-        Production::SideLast {
-            left: _,
-            action: _,
-            dependent: _,
-            side: _,
-        } => false,
-    }
+    matches!(rule, Production::Word { left, word } if left == a && bits::has(words, word))
 }
 
 // What production p adds at a place with a set of words: a bare item, whose number comes after those of all feet with an index.
@@ -47,28 +27,28 @@ fn at_word(
     rule: Production,
     words: u32,
     count: usize,
-) -> usize
+) -> Option<usize>
     requires { WorksOn cell chart.old marks.old count × (cell.to ≡ cell.from + 1) × (p < max_productions) }
     ensures { AddedTo cell (by_word (one_of words) cell.left cell.from p (rule_from rule))
         chart.old marks.old count chart.new marks.new result }
 {
-    if is_word(rule, cell.left, words) {
-        let foot = Foot {
-            index: 0,
-            symbol: 255,
-            from: 0,
-            to: 0,
-        };
-        let origin = Origin {
-            production: p as u8,
-            side: NOWHERE,
-            dependent: NOWHERE,
-            continuation: NOWHERE,
-        };
-        let number = cell.symbols * ((cell.words * (cell.words + 1)) >> 1) * Card::MAX_INDICES;
-        return records::add::add(chart, marks, cell, foot, number, origin, count);
+    if !is_word(rule, cell.left, words) {
+        return Some(count);
     }
-    count
+    let foot = Foot {
+        index: 0,
+        symbol: 255,
+        from: 0,
+        to: 0,
+    };
+    let origin = Origin {
+        production: p as u8,
+        side: NOWHERE,
+        dependent: NOWHERE,
+        continuation: NOWHERE,
+    };
+    let number = cell.symbols * ((cell.words * (cell.words + 1)) >> 1) * Card::MAX_INDICES;
+    records::add::add(chart, marks, cell, foot, number, origin, count)
 }
 
 // What production p adds at every split of the span, from the left. At a split that is left out one of its elements is missing, or a like
@@ -79,32 +59,26 @@ fn across_splits(
     cells: &mut [u16],
     sets: &[u64],
     cell: OpenCell,
-    card: &[u8],
+    card: Card,
     set: u64,
     p: usize,
     count: usize,
-) -> usize
-    requires { Filling cell chart.old marks.old cells.old count × CellGiven card.now sets.now cell chart.old
-        × Turn card.now cell chart.old count p }
-    ensures { AdvancedTo cell (splits_add card.now cell p (begun_with cell chart.old))
+) -> Option<usize>
+    requires { Filling cell chart.old marks.old cells.old count × CellGiven card.bytes.now sets.now cell chart.old
+        × Turn card.bytes.now cell chart.old count p }
+    ensures { AdvancedTo cell (splits_add card.entry.bytes.now cell p (begun_with cell chart.old))
         chart.old marks.old cells.old count chart.new marks.new cells.new result }
 {
-    let table = Card::of(card).production_table();
-    let rule = Card::production(card, table, p);
-    let like = sets::like::like_before(card, table, set, p);
-    let mut rest = sets::splits_of(sets, p, like);
+    let rule = card.production(p);
+    let like = sets::like::like_before(card, set, p);
+    let splits = sets::splits_of(sets, p, like);
     let mut total = count;
-    while rest != 0 {
-        let k = bits::least(rest);
-        rest = bits::without(rest, k);
+    for k in bits::numbers(splits) {
         total = steps::step::by_production(
             chart, marks, cells, cell, k as u8, p as u8, rule, total,
-        );
-        if cell.room < total {
-            return total;
-        }
+        )?;
     }
-    total
+    Some(total)
 }
 
 // What production p adds to the cell.
@@ -114,24 +88,29 @@ fn by_rule_over(
     cells: &mut [u16],
     sets: &[u64],
     cell: OpenCell,
-    card: &[u8],
-    places: &[u32; MOST_WORDS],
+    card: Card,
+    words: &Words,
     set: u64,
     p: usize,
     count: usize,
-) -> usize
-    requires { Filling cell chart.old marks.old cells.old count × CellGiven card.now sets.now cell chart.old
-        × Turn card.now cell chart.old count p }
-    ensures { AdvancedTo cell (rule_adds card.now places.now cell p (begun_with cell chart.old))
+) -> Option<usize>
+    requires { Filling cell chart.old marks.old cells.old count × CellGiven card.bytes.now sets.now cell chart.old
+        × Turn card.bytes.now cell chart.old count p }
+    ensures { AdvancedTo cell (rule_adds card.entry.bytes.now words.now.places cell p (begun_with cell chart.old))
         chart.old marks.old cells.old count chart.new marks.new cells.new result }
 {
-    let from = wide(cell.from);
-    let to = wide(cell.to);
+    let from = usize::from(cell.from);
+    let to = usize::from(cell.to);
     if to - from == 1 {
-        let table = Card::of(card).production_table();
-        let rule = Card::production(card, table, p);
-        let words = places[from];
-        return at_word(chart, marks, cell, p, rule, words, count);
+        return at_word(
+            chart,
+            marks,
+            cell,
+            p,
+            card.production(p),
+            words.places[from],
+            count,
+        );
     }
     across_splits(chart, marks, cells, sets, cell, card, set, p, count)
 }
@@ -143,27 +122,20 @@ pub fn fill_items(
     cells: &mut [u16],
     sets: &[u64],
     cell: OpenCell,
-    card: &[u8],
-    places: &[u32; MOST_WORDS],
+    card: Card,
+    words: &Words,
     set: u64,
-    count: usize,
-) -> usize
-    requires { Filling cell chart.old marks.old cells.old count × CellGiven card.now sets.now cell chart.old
-        × SetFor card.now places.now cell chart.old set }
-    ensures { AdvancedTo cell (cell_adds card.now places.now cell (begun_with cell chart.old))
-        chart.old marks.old cells.old count chart.new marks.new cells.new result }
+) -> Option<usize>
+    requires { Filling cell chart.old marks.old cells.old cell.base × CellGiven card.bytes.now sets.now cell chart.old
+        × SetFor card.bytes.now words.now.places cell chart.old set }
+    ensures { AdvancedTo cell (cell_adds card.entry.bytes.now words.now.places cell (begun_with cell chart.old))
+        chart.old marks.old cells.old cell.base chart.new marks.new cells.new result }
 {
-    let mut rest = set;
-    let mut total = count;
-    while rest != 0 {
-        let p = bits::least(rest);
-        rest = bits::without(rest, p);
-        total = by_rule_over(chart, marks, cells, sets, cell, card, places, set, p, total);
-        if cell.room < total {
-            return total;
-        }
+    let mut total = cell.base;
+    for p in bits::numbers(set) {
+        total = by_rule_over(chart, marks, cells, sets, cell, card, words, set, p, total)?;
     }
-    total
+    Some(total)
 }
 
 // The cell is filled: its marks are taken back, and where its records stand is known.
@@ -171,16 +143,14 @@ pub fn finish(chart: &[u8], marks: &mut [u8], cell: OpenCell, count: usize) -> R
     requires { WorksOn cell chart.now marks.old count × (cell.base ≤ count) }
     ensures { Finished chart.now cell.base count marks.old marks.new result }
 {
-    let mut m = cell.base;
-    let mut bare = 0;
-    while m < count {
+    let mut bare = None;
+    for m in cell.base..count {
         let foot = records::record::foot_at(chart, m);
         if foot.index == 0 {
-            bare = m + 1;
+            bare = Some(m);
         }
         let number = records::record::number_at(chart, m);
         records::marks::unmark(marks, number);
-        m += 1;
     }
     Range {
         from: cell.base,

@@ -8,27 +8,21 @@ mod sized;
 ghost use Rattle.places.specs.Places.{word_test};
 ghost use Rattle.chart.specs.Built.{Buildable, BuiltRoom};
 
-use places::MOST_WORDS;
+use card::Card;
+use places::Words;
 
-// The number of items, or that they outnumber what the room holds.
-#[derive(Clone, Copy)]
-pub enum Built {
-    Chart(usize),
-    TooMany,
-}
-
-// The chart of a line of n words under an accepted card, if the room holds it; if not, the room is cleared. What the room held before does
-// not matter. The numbers that the records have while the chart is built are cleared at its end.
-pub fn build_chart(card: &[u8], places: &[u32; MOST_WORDS], n: usize, chart: &mut [u8]) -> Built
-    requires { Buildable card.now places.now n }
-    ensures { BuiltRoom card.now (word_test places.now) n result chart.old chart.new }
+// The chart of a line of n words under an accepted card, and the number of its items; if they outnumber what the room holds, there is
+// none, and the room is cleared. What the room held before does not matter. The numbers that the records have while the chart is built are
+// cleared at its end.
+pub fn build_chart(card: Card, words: &Words, chart: &mut [u8]) -> Option<usize>
+    requires { Buildable card.bytes.now words.now.places words.now.count }
+    ensures { BuiltRoom card.entry.bytes.now (word_test words.now.places) words.now.count result chart.old chart.new }
 {
     let holds = records::room::capacity(chart.len());
-    let count = sized::build_in(card, places, n, holds, chart);
-    if holds < count {
+    let Some(count) = sized::build_in(card, words, holds, chart) else {
         records::room::clear(chart);
-        return Built::TooMany;
-    }
+        return None;
+    };
     records::room::clear_numbers(chart, count);
-    Built::Chart(count)
+    Some(count)
 }

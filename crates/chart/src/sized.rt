@@ -1,11 +1,12 @@
 // The tables beside the room, on the stack. Their sizes go by the words and by whether the card has few nonterminals, so that clearing
-// them costs little where little is needed: `build_W` is for lines of up to W words, `build_W_few` for cards of few nonterminals as well.
+// them costs little where little is needed: those of `_W` are for lines of up to W words, those of `_W_FEW` for cards of few nonterminals.
+ghost use Rattle.std.specs.Prelude.{◌+◌, ◌<◌};
 ghost use Rattle.layout.specs.Card.{nonterminal_count};
-ghost use Rattle.chart.specs.Built.{Buildable, RoomLent, TablesLent, Sized, ClosedIn};
+ghost use Rattle.chart.specs.Built.{Buildable, RoomLent, LongEnough, TablesLent, ClosedIn};
 
 use crate::build::Sizes;
 use card::Card;
-use places::MOST_WORDS;
+use places::{MOST_WORDS, Words};
 use sets::SPANS;
 
 // Few nonterminals.
@@ -24,212 +25,113 @@ const SPANS_16: usize = 136;
 
 const SPANS_24: usize = (MOST_WORDS * (MOST_WORDS + 1)) >> 1;
 
+// The tables' lengths, for cards of few nonterminals and for all cards: of marks, of cells, and of sets.
+const MARKS_4_FEW: usize = SPANS_4 * FEW + 1;
+
+const CELLS_4_FEW: usize = 4 * SPANS_4 * FEW;
+
+const SETS_4: usize = SPANS + 2 * SPANS_4 + 2 * (4 + 1);
+
+const MARKS_6: usize = SPANS_6 * Card::MAX_NONTERMINALS + 1;
+
+const CELLS_6: usize = 4 * SPANS_6 * Card::MAX_NONTERMINALS;
+
+const SETS_6: usize = SPANS + 2 * SPANS_6 + 2 * (6 + 1);
+
+const MARKS_8_FEW: usize = SPANS_8 * FEW + 1;
+
+const CELLS_8_FEW: usize = 4 * SPANS_8 * FEW;
+
+const SETS_8: usize = SPANS + 2 * SPANS_8 + 2 * (8 + 1);
+
+const MARKS_12_FEW: usize = SPANS_12 * FEW + 1;
+
+const CELLS_12_FEW: usize = 4 * SPANS_12 * FEW;
+
+const MARKS_12: usize = SPANS_12 * Card::MAX_NONTERMINALS + 1;
+
+const CELLS_12: usize = 4 * SPANS_12 * Card::MAX_NONTERMINALS;
+
+const SETS_12: usize = SPANS + 2 * SPANS_12 + 2 * (12 + 1);
+
+const MARKS_16_FEW: usize = SPANS_16 * FEW + 1;
+
+const CELLS_16_FEW: usize = 4 * SPANS_16 * FEW;
+
+const SETS_16: usize = SPANS + 2 * SPANS_16 + 2 * (16 + 1);
+
+const MARKS_24_FEW: usize = SPANS_24 * FEW + 1;
+
+const CELLS_24_FEW: usize = 4 * SPANS_24 * FEW;
+
+const MARKS_24: usize = SPANS_24 * Card::MAX_NONTERMINALS + 1;
+
+const CELLS_24: usize = 4 * SPANS_24 * Card::MAX_NONTERMINALS;
+
+const SETS_24: usize = SPANS + 2 * SPANS_24 + 2 * (MOST_WORDS + 1);
+
 // With tables that are all 0 and long enough.
 fn build_with(
-    card: &[u8],
-    places: &[u32; MOST_WORDS],
-    n: usize,
+    card: Card,
+    words: &Words,
     room: usize,
     chart: &mut [u8],
     marks: &mut [u8],
     cells: &mut [u16],
     sets: &mut [u64],
-) -> usize
-    requires { Buildable card.now places.now n × RoomLent room chart.old
-        × TablesLent n (nonterminal_count card.now) marks.old cells.old sets.old }
-    ensures { ClosedIn card.now places.now n room chart.old chart.new result }
+) -> Option<usize>
+    requires { Buildable card.bytes.now words.now.places words.now.count × RoomLent room chart.old
+        × TablesLent words.now.count (nonterminal_count card.bytes.now) marks.old cells.old sets.old }
+    ensures { ClosedIn card.entry.bytes.now words.now.places words.now.count room chart.old chart.new result }
 {
     let sizes = Sizes {
-        words: n,
-        symbols: Card::of(card).nonterminals,
+        words: words.count,
+        symbols: card.nonterminals(),
         room,
     };
     sets::classify(card, sets);
-    crate::build::close_all(chart, marks, cells, sets, sizes, card, places)
+    crate::build::close_all(chart, marks, cells, sets, sizes, card, words)
 }
 
-fn build_4_few(
-    card: &[u8],
-    places: &[u32; MOST_WORDS],
-    n: usize,
+// With tables of so many marks, cells and sets, few enough for an array each.
+fn build_sized<const MARKS: usize, const CELLS: usize, const SETS: usize>(
+    card: Card,
+    words: &Words,
     room: usize,
     chart: &mut [u8],
-) -> usize
-    requires { Sized 4 6 card.now places.now n room chart.old }
-    ensures { ClosedIn card.now places.now n room chart.old chart.new result }
+) -> Option<usize>
+    requires { (MARKS + CELLS + SETS < 65536) × Buildable card.bytes.now words.now.places words.now.count × RoomLent room chart.old
+        × LongEnough words.now.count (nonterminal_count card.bytes.now) MARKS CELLS SETS }
+    ensures { ClosedIn card.entry.bytes.now words.now.places words.now.count room chart.old chart.new result }
 {
-    let mut marks = [0u8; SPANS_4 * FEW + 1];
-    let mut cells = [0u16; 4 * SPANS_4 * FEW];
-    let mut sets = [0u64; SPANS + 2 * SPANS_4 + 2 * (4 + 1)];
-    build_with(
-        card, places, n, room, chart, &mut marks, &mut cells, &mut sets,
-    )
+    let mut marks = [0u8; MARKS];
+    let mut cells = [0u16; CELLS];
+    let mut sets = [0u64; SETS];
+    build_with(card, words, room, chart, &mut marks, &mut cells, &mut sets)
 }
 
-fn build_6(
-    card: &[u8],
-    places: &[u32; MOST_WORDS],
-    n: usize,
-    room: usize,
-    chart: &mut [u8],
-) -> usize
-    requires { Sized 6 16 card.now places.now n room chart.old }
-    ensures { ClosedIn card.now places.now n room chart.old chart.new result }
+// With the first tables that are large enough.
+pub fn build_in(card: Card, words: &Words, room: usize, chart: &mut [u8]) -> Option<usize>
+    requires { Buildable card.bytes.now words.now.places words.now.count × RoomLent room chart.old }
+    ensures { ClosedIn card.entry.bytes.now words.now.places words.now.count room chart.old chart.new result }
 {
-    let mut marks = [0u8; SPANS_6 * Card::MAX_NONTERMINALS + 1];
-    let mut cells = [0u16; 4 * SPANS_6 * Card::MAX_NONTERMINALS];
-    let mut sets = [0u64; SPANS + 2 * SPANS_6 + 2 * (6 + 1)];
-    build_with(
-        card, places, n, room, chart, &mut marks, &mut cells, &mut sets,
-    )
-}
-
-fn build_8_few(
-    card: &[u8],
-    places: &[u32; MOST_WORDS],
-    n: usize,
-    room: usize,
-    chart: &mut [u8],
-) -> usize
-    requires { Sized 8 6 card.now places.now n room chart.old }
-    ensures { ClosedIn card.now places.now n room chart.old chart.new result }
-{
-    let mut marks = [0u8; SPANS_8 * FEW + 1];
-    let mut cells = [0u16; 4 * SPANS_8 * FEW];
-    let mut sets = [0u64; SPANS + 2 * SPANS_8 + 2 * (8 + 1)];
-    build_with(
-        card, places, n, room, chart, &mut marks, &mut cells, &mut sets,
-    )
-}
-
-fn build_12_few(
-    card: &[u8],
-    places: &[u32; MOST_WORDS],
-    n: usize,
-    room: usize,
-    chart: &mut [u8],
-) -> usize
-    requires { Sized 12 6 card.now places.now n room chart.old }
-    ensures { ClosedIn card.now places.now n room chart.old chart.new result }
-{
-    let mut marks = [0u8; SPANS_12 * FEW + 1];
-    let mut cells = [0u16; 4 * SPANS_12 * FEW];
-    let mut sets = [0u64; SPANS + 2 * SPANS_12 + 2 * (12 + 1)];
-    build_with(
-        card, places, n, room, chart, &mut marks, &mut cells, &mut sets,
-    )
-}
-
-fn build_12(
-    card: &[u8],
-    places: &[u32; MOST_WORDS],
-    n: usize,
-    room: usize,
-    chart: &mut [u8],
-) -> usize
-    requires { Sized 12 16 card.now places.now n room chart.old }
-    ensures { ClosedIn card.now places.now n room chart.old chart.new result }
-{
-    let mut marks = [0u8; SPANS_12 * Card::MAX_NONTERMINALS + 1];
-    let mut cells = [0u16; 4 * SPANS_12 * Card::MAX_NONTERMINALS];
-    let mut sets = [0u64; SPANS + 2 * SPANS_12 + 2 * (12 + 1)];
-    build_with(
-        card, places, n, room, chart, &mut marks, &mut cells, &mut sets,
-    )
-}
-
-fn build_16_few(
-    card: &[u8],
-    places: &[u32; MOST_WORDS],
-    n: usize,
-    room: usize,
-    chart: &mut [u8],
-) -> usize
-    requires { Sized 16 6 card.now places.now n room chart.old }
-    ensures { ClosedIn card.now places.now n room chart.old chart.new result }
-{
-    let mut marks = [0u8; SPANS_16 * FEW + 1];
-    let mut cells = [0u16; 4 * SPANS_16 * FEW];
-    let mut sets = [0u64; SPANS + 2 * SPANS_16 + 2 * (16 + 1)];
-    build_with(
-        card, places, n, room, chart, &mut marks, &mut cells, &mut sets,
-    )
-}
-
-fn build_24_few(
-    card: &[u8],
-    places: &[u32; MOST_WORDS],
-    n: usize,
-    room: usize,
-    chart: &mut [u8],
-) -> usize
-    requires { Sized 24 6 card.now places.now n room chart.old }
-    ensures { ClosedIn card.now places.now n room chart.old chart.new result }
-{
-    let mut marks = [0u8; SPANS_24 * FEW + 1];
-    let mut cells = [0u16; 4 * SPANS_24 * FEW];
-    let mut sets = [0u64; SPANS + 2 * SPANS_24 + 2 * (MOST_WORDS + 1)];
-    build_with(
-        card, places, n, room, chart, &mut marks, &mut cells, &mut sets,
-    )
-}
-
-fn build_24(
-    card: &[u8],
-    places: &[u32; MOST_WORDS],
-    n: usize,
-    room: usize,
-    chart: &mut [u8],
-) -> usize
-    requires { Sized 24 16 card.now places.now n room chart.old }
-    ensures { ClosedIn card.now places.now n room chart.old chart.new result }
-{
-    let mut marks = [0u8; SPANS_24 * Card::MAX_NONTERMINALS + 1];
-    let mut cells = [0u16; 4 * SPANS_24 * Card::MAX_NONTERMINALS];
-    let mut sets = [0u64; SPANS + 2 * SPANS_24 + 2 * (MOST_WORDS + 1)];
-    build_with(
-        card, places, n, room, chart, &mut marks, &mut cells, &mut sets,
-    )
-}
-
-// By the first that is large enough.
-pub fn build_in(
-    card: &[u8],
-    places: &[u32; MOST_WORDS],
-    n: usize,
-    room: usize,
-    chart: &mut [u8],
-) -> usize
-    requires { Buildable card.now places.now n × RoomLent room chart.old }
-    ensures { ClosedIn card.now places.now n room chart.old chart.new result }
-{
-    let symbols = Card::of(card).nonterminals;
-    if n <= 4 {
-        if symbols <= FEW {
-            return build_4_few(card, places, n, room, chart);
-        }
+    let n = words.count;
+    let few = card.nonterminals() <= FEW;
+    if few && n <= 4 {
+        build_sized::<MARKS_4_FEW, CELLS_4_FEW, SETS_4>(card, words, room, chart)
+    } else if few && n <= 8 {
+        build_sized::<MARKS_8_FEW, CELLS_8_FEW, SETS_8>(card, words, room, chart)
+    } else if n <= 6 {
+        build_sized::<MARKS_6, CELLS_6, SETS_6>(card, words, room, chart)
+    } else if few && n <= 12 {
+        build_sized::<MARKS_12_FEW, CELLS_12_FEW, SETS_12>(card, words, room, chart)
+    } else if n <= 12 {
+        build_sized::<MARKS_12, CELLS_12, SETS_12>(card, words, room, chart)
+    } else if few && n <= 16 {
+        build_sized::<MARKS_16_FEW, CELLS_16_FEW, SETS_16>(card, words, room, chart)
+    } else if few {
+        build_sized::<MARKS_24_FEW, CELLS_24_FEW, SETS_24>(card, words, room, chart)
+    } else {
+        build_sized::<MARKS_24, CELLS_24, SETS_24>(card, words, room, chart)
     }
-    if n <= 8 {
-        if symbols <= FEW {
-            return build_8_few(card, places, n, room, chart);
-        }
-    }
-    if n <= 6 {
-        return build_6(card, places, n, room, chart);
-    }
-    if n <= 12 {
-        if symbols <= FEW {
-            return build_12_few(card, places, n, room, chart);
-        }
-        return build_12(card, places, n, room, chart);
-    }
-    if n <= 16 {
-        if symbols <= FEW {
-            return build_16_few(card, places, n, room, chart);
-        }
-    }
-    if symbols <= FEW {
-        return build_24_few(card, places, n, room, chart);
-    }
-    build_24(card, places, n, room, chart)
 }

@@ -1,12 +1,12 @@
--- The two loops back over a plan: what is counted, waits and is written belongs to the rest of the plan, from the last step that the loop
--- has met. One step more in front changes them by its action.
-use Prim.Native.Nat.{ℕ, suc, ◌+◌, ◌-◌, ◌*◌, ◌/◌, ◌≤◌, ◌<◌}
+-- The two loops over a plan: what is still to be counted, and what waits and is written, belongs to the rest of the plan from a step on. One
+-- step more in front changes it by its action.
+use Prim.Native.Nat.{ℕ, suc, ◌+◌, ◌*◌, ◌/◌, ◌≤◌, ◌<◌}
 use native.Mathlib.Omega.{arith}
 use native.Mathlib.Decide.{dec_lt}
 use mathlib.Core.Path.{◌≡◌, refl, sym, ◌∙◌, ap, subst}
 use mathlib.Core.List.{List, [], ◌∷◌, ◌++◌}
 use mathlib.Core.Option.{Option, some}
-use lib.ListN.{length, take, drop, replicate, get_elem?, length-append, length-map, length-drop, drop_of_length-le, take-append-drop}
+use lib.ListN.{length, take, drop, get_elem?, length-append, length-map, length-drop, drop_of_length-le, take-append-drop}
 use lib.Seq.{length-take-le}
 use Rattle.grammar.specs.Rewriting.{Rule, Action, Take, Keep, Give}
 use Rattle.grammar.specs.Plan.{PlanStep, production_in}
@@ -14,18 +14,22 @@ use Rattle.grammar.specs.Pairs.{Stretch, side_of, place_in, Pair}
 use Rattle.grammar.specs.Matching.{takes_action, takes_rule, takes_of, matched_action, matched_rule, matched, one_give}
 use Rattle.grammar.proofs.StandsLaws.{none-some, some_same}
 use Rattle.grammar.proofs.PairsLaws.{matched_action-length}
-use Rattle.layout.specs.Card.{production, production_count, grammar_of}
+use Rattle.layout.specs.Card.{card_number, production_count, grammar_of}
 use Rattle.layout.specs.Steps.{steps_of, pairs_bytes}
 use Rattle.layout.specs.Answers.{plan_pairs, pairs_after}
-use Rattle.goals.specs.Shown.{action_of, step_from, StepAt}
-use Rattle.check_pairs.specs.Matching.{HasWords, CanGive, CanMatch, in_hand, Matches, Matched}
+use Rattle.goals.specs.Shown.{action_of}
+use Rattle.check_pairs.specs.Matching.{Checked, stretch_from, HasWords, step_of, rule_in, StepIn, started, CanGive, CanMatch, met, room_met, Matches}
+use Rattle.check_pairs.specs.declared.matching.Stretch as code
+use Rattle.card.specs.declared.Action as read
+use Rattle.card.specs.Productions.{action_from}
+use Rattle.layout.specs.Bytes.{byte_at}
 use Rattle.check_pairs.specs.declared.matching.Matching.{Matching}
-use Rattle.goals.specs.declared.replay.StepBytes.{StepBytes}
 use Rattle.goals.proofs.ShownLaws.{tops-length}
+use Rattle.check_pairs.proofs.StepLaws.{matches-met}
 use Rattle.goals.proofs.AdvanceLaws.{rule-there, rule-missing}
 use Rattle.check_pairs.proofs.Paced.{Paced, paced_none, paced, Waits, takes-rule, matched-rule}
 use Rattle.layout.proofs.Lengths.{plan-bytes-length, pairs-bytes-length}
-use Rattle.check_pairs.proofs.Passed.{plan_of, Passed, suffix-step, paced-drop, matched-drop, drop-stands}
+use Rattle.check_pairs.proofs.Passed.{plan_of, Passed, passed, suffix-step, paced-drop, matched-drop, drop-stands}
 
 -- A step in front of the rest.
 record Front (g : List Rule) (st : PlanStep) (whole rest : List PlanStep) (R : Rule) : Type 0 where
@@ -73,83 +77,76 @@ finish : (room before : List ℕ) (u count : ℕ) (xs P : List Pair) → xs ≡ 
     → room ≡ take (2 * u) before ++ (pairs_bytes xs ++ drop (2 * count) before) → room ≡ pairs_after P before
 finish room before u count xs P e t c w = let z : 2 * u ≡ 0 = omega (arith, ap length e) in w ∙ rw (z, e, c)
 
-module _ (card plan : List ℕ) (x : Passed card plan) where
+module _ (card plan : List ℕ) where
+  abbrev pub takes_from : ℕ → List Stretch
+  takes_from k = takes_of (grammar_of card) (drop k (plan_of plan))
+
+  abbrev pub pairs_from : ℕ → List Pair
+  pairs_from k = matched (grammar_of card) (drop k (plan_of plan))
+
+  -- What waits and is written, of the steps from k on.
+  abbrev pub Writing : List ℕ → ℕ → ℕ → Matching → List ℕ → Type 0
+  Writing before count k at room = Matches before count (takes_from k) (pairs_from k) at room
+
+module _ (card plan : List ℕ) (y : Checked card plan) where
+  x : Passed card plan
+  x = passed card y.0 plan y.1
+
+  pub card-accepted : card_number card ≡ 0
+  card-accepted = x.accepted
+
   -- A step in its place: the rest of the plan is paced, and the step's production is one of the card's.
-  module _ (s : ℕ) (st : StepBytes) (h : 4 * s + 4 ≤ length plan) (a : StepAt plan (4 * s) st) where
-    here : drop s (plan_of plan) ≡ step_from st ∷ drop (suc s) (plan_of plan)
-    here = suffix-step plan (plan_of plan) s st x.bytes h a
+  module _ (k : ℕ) (h : 4 * k + 4 ≤ length plan) where
+    here : drop k (plan_of plan) ≡ step_of plan k ∷ drop (suc k) (plan_of plan)
+    here = suffix-step plan (plan_of plan) k (record {
+      number = byte_at plan (4 * k);
+      start = byte_at plan (4 * k + 1);
+      split = byte_at plan (4 * k + 2);
+      end = byte_at plan (4 * k + 3);
+    }) x.bytes h (record { number = refl; start = refl; split = refl; end = refl })
 
-    paced-here : Paced (grammar_of card) (step_from st ∷ drop (suc s) (plan_of plan))
-    paced-here = rw here at (paced-drop s x.pace)
+    paced-here : Paced (grammar_of card) (step_of plan k ∷ drop (suc k) (plan_of plan))
+    paced-here = rw here at (paced-drop k x.pace)
 
-    pub step-there : st.number < production_count card
-    step-there = rule-below card st.number (paced-rule paced-here).1
+    pub step-there : byte_at plan (4 * k) < production_count card
+    step-there = rule-below card (byte_at plan (4 * k)) (paced-rule paced-here).1
 
-    step_back : (R : Rule) → R ≡ production card st.number
-        → Front (grammar_of card) (step_from st) (drop s (plan_of plan)) (drop (suc s) (plan_of plan)) R
-    step_back R r =
-        let e = rule-there card st.number step-there ∙ ap some (sym r) in
-        rw here (front e paced-here (x.sides s (step_from st) R (drop-stands (plan_of plan) s here) e))
+    step_back : Front (grammar_of card) (step_of plan k) (drop k (plan_of plan)) (drop (suc k) (plan_of plan)) (rule_in card plan k)
+    step_back =
+        let e = rule-there card (byte_at plan (4 * k)) step-there in
+        rw here (front e paced-here (x.sides k (step_of plan k) (rule_in card plan k) (drop-stands (plan_of plan) k here) e))
+
+    pub gives-here : (n : ℕ) → n ≡ suc k
+        → length (pairs_from card plan k) ≡ one_give (action_of (rule_in card plan k)) + length (pairs_from card plan n)
+    gives-here n e = rw e (ap length step_back.pairs ∙ matched_action-length (action_of (rule_in card plan k)) _ _ (pairs_from card plan (suc k)))
 
   -- The steps are a quarter of the bytes.
   steps-length : length plan ≡ 4 * length (plan_of plan)
   steps-length = ap length x.bytes ∙ plan-bytes-length (plan_of plan)
 
-  nothing_left : drop (length plan / 4) (plan_of plan) ≡ []
-  nothing_left =
-      let h : length (plan_of plan) ≤ length plan / 4 = omega (arith, steps-length) in drop_of_length-le (plan_of plan) h
+  nothing_left : (k : ℕ) → length plan / 4 ≤ k → drop k (plan_of plan) ≡ []
+  nothing_left k h = drop_of_length-le (plan_of plan) (omega (arith, steps-length))
 
-  -- Counting the gives.
-  pub record Counting (count left : ℕ) : Type 0 where
-    pub in_plan : 4 * left ≤ length plan
-    pub few : count + left ≤ length plan
-    pub counted : count ≡ length (matched (grammar_of card) (drop left (plan_of plan)))
+  pub all-pairs : pairs_from card plan 0 ≡ plan_pairs card (steps_of plan)
+  all-pairs = sym x.pairs
 
-  pub counting-start : Counting 0 (length plan / 4)
-  counting-start = record {
-    in_plan = omega arith;
-    few = omega arith;
-    counted = ap (λ (l : List PlanStep). length (matched (grammar_of card) l)) (sym nothing_left);
-  }
-
-  pub counting-turn : (count left : ℕ) → Counting count left → 0 < left → (st : StepBytes) (R : Rule) → StepAt plan (4 * (left - 1)) st
-      → R ≡ production card st.number → (more : ℕ) → more ≡ one_give (action_of R) → more ≤ 1 → Counting (count + more) (left - 1)
-  counting-turn count left c h st R a r more m l =
-      let f = step_back (left - 1) st (omega (arith, c.in_plan)) a R r in
-      let e : suc (left - 1) ≡ left = omega arith in
-      let d = ap length f.pairs ∙ matched_action-length (action_of R) _ _ (matched (grammar_of card) (drop (suc (left - 1)) (plan_of plan))) in
-      let q = ap (λ (s : ℕ). length (matched (grammar_of card) (drop s (plan_of plan)))) e in
-      record { in_plan = omega (arith, c.in_plan); few = omega (arith, c.few); counted = omega (arith, c.counted) }
-
-  pub counting-end : (count left : ℕ) → Counting count left → left ≤ 0 → count ≡ length (plan_pairs card (steps_of plan))
-  counting-end count left c h =
-      let e : left ≡ 0 = omega arith in
-      c.counted ∙ (ap (λ (s : ℕ). length (matched (grammar_of card) (drop s (plan_of plan)))) e ∙ ap length (sym x.pairs))
+  pub no-pairs : (k : ℕ) → length plan / 4 ≤ k → length (pairs_from card plan k) ≡ 0
+  no-pairs k h = ap (λ (l : List PlanStep). length (matched (grammar_of card) l)) (nothing_left k h)
 
   -- Writing the pairs.
-  pub record Writing (before : List ℕ) (count : ℕ) (takes room : List ℕ) (at : Matching) (left : ℕ) : Type 0 where
-    pub in_plan : 4 * left ≤ length plan
-    pub matches : Matches before count (takes_of (grammar_of card) (drop left (plan_of plan)))
-        (matched (grammar_of card) (drop left (plan_of plan))) (in_hand takes room at)
-
-  pub writing_start : (before : List ℕ) (count : ℕ) → 2 * count ≤ length before
-      → Writing before count (replicate 25 0) before (record { waiting = 0; unwritten = count }) (length plan / 4)
-  writing_start before count h = record {
-    in_plan = omega arith;
-    matches = rw nothing_left (record {
+  module _ (before : List ℕ) (count : ℕ) where
+    pub writing_start : 2 * count ≤ length before → Writing card plan before count (length plan / 4) (started count) before
+    writing_start h = rw (nothing_left (length plan / 4) (omega arith)) (record {
       all_takes = refl;
       shown = refl;
       total = omega arith;
       within = h;
       written = sym (take-append-drop (2 * count) before);
-    });
-  }
+    })
 
-  module _ (before : List ℕ) (count : ℕ) (takes room : List ℕ) (at : Matching) (left : ℕ) (w : Writing before count takes room at left) where
-    pub writing-length : length room ≡ length before
-    writing-length =
-        let m = w.matches in
-        let xs = matched (grammar_of card) (drop left (plan_of plan)) in
+    pub writing-length : (k : ℕ) (at : Matching) (room : List ℕ) → Writing card plan before count k at room → length room ≡ length before
+    writing-length k at room m =
+        let xs = pairs_from card plan k in
         let e = ap length m.written in
         let d = length-append (take (2 * at.unwritten) before) (pairs_bytes xs ++ drop (2 * count) before) in
         let q = length-append (pairs_bytes xs) (drop (2 * count) before) in
@@ -157,45 +154,35 @@ module _ (card plan : List ℕ) (x : Passed card plan) where
         length-take-le (2 * at.unwritten) before (omega (arith, m.total, m.within)) in
         omega (arith, pairs-bytes-length xs, length-drop (2 * count) before, m.total, m.within)
 
-    pub writing-end : left ≤ 0 → count ≡ length (plan_pairs card (steps_of plan)) → room ≡ pairs_after (plan_pairs card (steps_of plan)) before
-    writing-end h e =
-        let z : left ≡ 0 = omega arith in
-        let xs = matched (grammar_of card) (drop left (plan_of plan)) in
-        let d : xs ≡ plan_pairs card (steps_of plan) =
-        ap (λ (s : ℕ). matched (grammar_of card) (drop s (plan_of plan))) z ∙ sym x.pairs in
-        finish room before at.unwritten count xs (plan_pairs card (steps_of plan)) d w.matches.total e w.matches.written
+    module _ (c : count ≡ length (plan_pairs card (steps_of plan))) where
+      pub writing-end : (at : Matching) (room : List ℕ) → Writing card plan before count 0 at room → room ≡ pairs_after (plan_pairs card (steps_of plan)) before
+      writing-end at room m =
+          finish room before at.unwritten count (pairs_from card plan 0) (plan_pairs card (steps_of plan)) all-pairs m.total c m.written
 
-    module _ (st : StepBytes) (R : Rule) (h : 0 < left) (a : StepAt plan (4 * (left - 1)) st) (r : R ≡ production card st.number) where
-      this : Front (grammar_of card) (step_from st) (drop (left - 1) (plan_of plan)) (drop left (plan_of plan)) R
-      this =
-          let e : suc (left - 1) ≡ left = omega arith in
-          subst
-          (λ (s : ℕ). Front (grammar_of card) (step_from st) (drop (left - 1) (plan_of plan)) (drop s (plan_of plan)) R)
-          e (step_back (left - 1) st (omega (arith, w.in_plan)) a R r)
+      module _ (k n : ℕ) (next : n ≡ suc k) (h : 4 * k + 4 ≤ length plan) (at : Matching) (room : List ℕ)
+          (w : Writing card plan before count n at room) {action : read.Action} {side : code.Stretch} (s : StepIn card plan k action side) where
+        m : Writing card plan before count (suc k) at room
+        m = rw next at w
 
-      pub writing-room : count ≡ length (plan_pairs card (steps_of plan)) → {b : Action} → b ≡ action_of R → {side : Stretch}
-          → side ≡ side_of R (step_from st) → CanMatch b side room at
-      writing-room e d u =
-          let g = grammar_of card in
-          let m = w.matches in
-          let ts = takes_of g (drop left (plan_of plan)) in
-          let xs = matched g (drop left (plan_of plan)) in
-          let k : at.waiting ≡ length ts =
-          sym (tops-length takes at.waiting) ∙ (ap length m.shown ∙ length-map ts place_in) in
-          let p = ap length this.pairs ∙ matched_action-length (action_of R) _ _ xs in
-          let q = matched-drop g (plan_of plan) (left - 1) in
-          let c : count ≡ length (matched g (plan_of plan)) = e ∙ ap length x.pairs in
-          rw (d, u) (record {
-            words = this.words;
-            few = omega (arith, this.few);
-            in_room = omega (arith, writing-length, m.total, m.within);
-            gives = can-give (action_of R) at ts (length xs) count this.waits k (omega arith) m.total;
-          })
+        pub writing-room : CanMatch (action_from action) (stretch_from side) room at
+        writing-room =
+            let f = step_back k h in
+            let ts = takes_from card plan (suc k) in
+            let xs = pairs_from card plan (suc k) in
+            let t : at.waiting ≡ length ts = sym (tops-length 0 at.takes at.waiting) ∙ (ap length m.shown ∙ length-map ts place_in) in
+            let p = ap length f.pairs ∙ matched_action-length (action_of (rule_in card plan k)) _ _ xs in
+            let q = matched-drop (grammar_of card) (plan_of plan) k in
+            let d : count ≡ length (pairs_from card plan 0) = c ∙ ap length x.pairs in
+            rw (s.acts, s.sides) (record {
+              words = f.words;
+              few = omega (arith, f.few);
+              in_room = omega (arith, writing-length (suc k) at room m, m.total, m.within);
+              gives = can-give (action_of (rule_in card plan k)) at ts (length xs) count f.waits t (omega arith) m.total;
+            })
 
-      pub writing-turn : (takes' room' : List ℕ) (to : Matching) {b : Action} → b ≡ action_of R → {side : Stretch}
-          → side ≡ side_of R (step_from st) → Matched b side (in_hand takes room at) (in_hand takes' room' to)
-          → Writing before count takes' room' to (left - 1)
-      writing-turn takes' room' to d q y = record {
-        in_plan = omega (arith, w.in_plan);
-        matches = rw (this.takes, this.pairs, ← d, ← q) (y.matched before count _ _ w.matches);
-      }
+        pub writing-turn : Writing card plan before count k
+            (met (action_from action) (stretch_from side) at) (room_met (action_from action) (stretch_from side) at room)
+        writing-turn =
+            let f = step_back k h in
+            let z = writing-room in
+            rw (f.takes, f.pairs, ← s.acts, ← s.sides) (matches-met (stretch_from side) (action_from action) _ _ z.gives z.few m)

@@ -3,22 +3,36 @@
 ghost use Rattle.std.specs.Prelude.{◌≡◌, ◌+◌, ◌*◌, ◌≤◌, length};
 ghost use Rattle.grammar.specs.Pairs.{stretch, side_of, place_in};
 ghost use Rattle.grammar.specs.Matching.{one_give};
-ghost use Rattle.layout.specs.Card.{production_table};
 ghost use Rattle.layout.specs.Steps.{steps_of};
 ghost use Rattle.layout.specs.Answers.{plan_pairs, pairs_after};
 ghost use Rattle.card.specs.Productions.{action_from, rule_from};
 ghost use Rattle.goals.specs.Shown.{action_of, step_from};
-ghost use Rattle.check_pairs.specs.Matching.{stretch_from, HasWords, Checked, CanMatch, in_hand, Matched};
+ghost use Rattle.check_pairs.specs.Matching.{stretch_from, HasWords, Checked, StepIn, started, CanMatch, met, room_met};
 
 use card::{Action, Card, Production};
 use goals::replay::{ENTRIES, StepBytes, step_at};
-use octets::wide;
 
-// How many takes wait for their give, and how many pairs are still to be written.
+// A stretch of the line: the words from place `from` up to place `to`.
 #[derive(Clone, Copy)]
-pub struct Matching {
-    pub waiting: usize,
-    pub unwritten: usize,
+struct Stretch {
+    from: u8,
+    to: u8,
+}
+
+impl Stretch {
+    fn between(from: u8, to: u8) -> Self
+        ensures { stretch_from result ≡ stretch from to }
+    {
+        Stretch { from, to }
+    }
+
+    // What a pair says of a side: its last word. A side of a plan that passes has one.
+    fn last_word(self) -> u8
+        requires { HasWords (stretch_from self) }
+        ensures { result ≡ place_in (stretch_from self) }
+    {
+        self.to - 1
+    }
 }
 
 // A word leaves the stack as it is.
@@ -26,34 +40,9 @@ fn action_of(production: Production) -> Action
     ensures { action_from result ≡ action_of (rule_from production) }
 {
     match production {
-        Production::Word { left: _, word: _ } => Action::Keep,
-        Production::SideFirst {
-            left: _,
-            action,
-            side: _,
-            dependent: _,
-        } => action,
-        Production::SideLast {
-            left: _,
-            action,
-            dependent: _,
-            side: _,
-        } => action,
+        Production::Word { .. } => Action::Keep,
+        Production::SideFirst { action, .. } | Production::SideLast { action, .. } => action,
     }
-}
-
-// A stretch of the line: the words from place `from` up to place `to`.
-#[derive(Clone, Copy)]
-pub struct Stretch {
-    pub from: u8,
-    pub to: u8,
-}
-
-// The stretch from one place up to another.
-fn between(from: u8, to: u8) -> Stretch
-    ensures { stretch_from result ≡ stretch from to }
-{
-    Stretch { from, to }
 }
 
 // The side of a step: what lies before the split where the side stands first, and after it where it stands last.
@@ -61,111 +50,98 @@ fn side_of(production: Production, step: StepBytes) -> Stretch
     ensures { stretch_from result ≡ side_of (rule_from production) (step_from step) }
 {
     match production {
-        Production::Word { left: _, word: _ } => between(step.start, step.end),
-        Production::SideFirst {
-            left: _,
-            action: _,
-            side: _,
-            dependent: _,
-        } => between(step.start, step.split),
-        Production::SideLast {
-            left: _,
-            action: _,
-            dependent: _,
-            side: _,
-        } => between(step.split, step.end),
+        Production::Word { .. } => Stretch::between(step.start, step.end),
+        Production::SideFirst { .. } => Stretch::between(step.start, step.split),
+        Production::SideLast { .. } => Stretch::between(step.split, step.end),
     }
-}
-
-// What a pair says of a side: its last word. A side of a plan that passes has one.
-fn place_in(side: Stretch) -> u8
-    requires { HasWords (stretch_from side) }
-    ensures { result ≡ place_in (stretch_from side) }
-{
-    side.to - 1
 }
 
 fn one_give(action: Action) -> usize
     ensures { (result ≡ one_give (action_from action)) × (result ≤ 1) }
 {
     match action {
-        Action::Take(_) => 0,
-        Action::Keep => 0,
+        Action::Take(_) | Action::Keep => 0,
         Action::Give(_) => 1,
     }
 }
 
-// A take's place waits; a give writes its pair, with the place that came last.
-fn match_step(
-    action: Action,
-    side: Stretch,
-    takes: &mut [u8; ENTRIES],
-    room: &mut [u8],
-    at: Matching,
-) -> Matching
-    requires { CanMatch (action_from action) (stretch_from side) room.old at }
-    ensures { Matched (action_from action) (stretch_from side) (in_hand takes.old room.old at)
-        (in_hand takes.new room.new result) }
+// What step k of a plan does with the stack, and its side. A step has four bytes.
+fn step_in(card: Card, plan: &[u8], k: usize) -> (Action, Stretch)
+    requires checked { Checked card.bytes.now plan.now }
+    requires there { 4 * k + 4 ≤ length plan.now }
+    ensures { StepIn card.entry.bytes.now plan.now k result.0 result.1 }
 {
-    let place = place_in(side);
-    let waiting = at.waiting;
-    let unwritten = at.unwritten;
-    match action {
-        Action::Take(_) => {
-            takes[waiting] = place;
-            Matching {
-                waiting: waiting + 1,
-                unwritten,
-            }
+    let step = step_at(plan, 4 * k);
+    let production = card.production(usize::from(step.number));
+    (action_of(production), side_of(production, step))
+}
+
+// The places of the takes that wait for their give, how many they are, and how many pairs are still to be written.
+#[derive(Drop)]
+struct Matching {
+    takes: [u8; ENTRIES],
+    waiting: usize,
+    unwritten: usize,
+}
+
+impl Matching {
+    fn start(count: usize) -> Self
+        ensures { result ≡ started count }
+    {
+        Matching {
+            takes: [0; ENTRIES],
+            waiting: 0,
+            unwritten: count,
         }
-        Action::Keep => at,
-        Action::Give(_) => {
-            let m = unwritten - 1;
-            let o = waiting - 1;
-            let taken = takes[o];
-            room[2 * m] = place;
-            room[2 * m + 1] = taken;
-            Matching {
-                waiting: o,
-                unwritten: m,
+    }
+
+    // A take's place waits; a give writes its pair, with the place that came last.
+    fn meet(&mut self, action: Action, side: Stretch, room: &mut [u8])
+        requires { CanMatch (action_from action) (stretch_from side) room.old self.old }
+        ensures { (self.new ≡ met (action_from action) (stretch_from side) self.old)
+            × (room.new ≡ room_met (action_from action) (stretch_from side) self.old room.old) }
+    {
+        let place = side.last_word();
+        match action {
+            Action::Take(_) => {
+                self.takes[self.waiting] = place;
+                self.waiting += 1;
+            }
+            Action::Keep => {}
+            Action::Give(_) => {
+                self.waiting -= 1;
+                self.unwritten -= 1;
+                let pair = 2 * self.unwritten;
+                room[pair] = place;
+                room[pair + 1] = self.takes[self.waiting];
             }
         }
     }
 }
 
-// How many pairs the plan has: its give steps, counted from the last. A step has four bytes.
-pub fn gives(card: &[u8], table: usize, plan: &[u8]) -> usize
-    requires { Checked card.now plan.now × (table ≡ production_table card.now) }
-    ensures { (result ≡ length (plan_pairs card.now (steps_of plan.now))) × (result ≤ length plan.now) }
+// How many pairs the plan has: its give steps.
+pub fn gives(card: Card, plan: &[u8]) -> usize
+    requires { Checked card.bytes.now plan.now }
+    ensures { (result ≡ length (plan_pairs card.entry.bytes.now (steps_of plan.now))) × (result ≤ length plan.now) }
 {
     let mut count = 0;
-    let mut left = plan.len() >> 2;
-    while 0 < left {
-        left -= 1;
-        let step = step_at(plan, 4 * left);
-        let production = Card::production(card, table, wide(step.number));
-        count += one_give(action_of(production));
+    // No chain: that there is a step k is known of the range, and not inside a closure.
+    for k in 0..plan.len() >> 2 {
+        let (action, _) = step_in(card, plan, k);
+        count += one_give(action);
     }
     count
 }
 
 // Writes the pairs, from the last to the first, in one pass back over the plan.
-pub fn write_pairs(card: &[u8], table: usize, plan: &[u8], count: usize, room: &mut [u8])
-    requires checked { Checked card.now plan.now × (table ≡ production_table card.now) }
-    requires counted { (count ≡ length (plan_pairs card.now (steps_of plan.now))) × (2 * count ≤ length room.old) }
-    ensures { room.new ≡ pairs_after (plan_pairs card.now (steps_of plan.now)) room.old }
+pub fn write_pairs(card: Card, plan: &[u8], count: usize, room: &mut [u8])
+    requires checked { Checked card.bytes.now plan.now }
+    requires counted { (count ≡ length (plan_pairs card.bytes.now (steps_of plan.now))) × (2 * count ≤ length room.old) }
+    ensures { room.new ≡ pairs_after (plan_pairs card.entry.bytes.now (steps_of plan.now)) room.old }
 {
-    let mut takes = [0u8; ENTRIES];
-    let mut at = Matching {
-        waiting: 0,
-        unwritten: count,
-    };
-    let mut left = plan.len() >> 2;
-    while 0 < left {
-        left -= 1;
-        let step = step_at(plan, 4 * left);
-        let production = Card::production(card, table, wide(step.number));
-        let side = side_of(production, step);
-        at = match_step(action_of(production), side, &mut takes, room, at);
+    let mut matching = Matching::start(count);
+    for k in (0..plan.len() >> 2).rev() {
+        let (action, side) = step_in(card, plan, k);
+        matching.meet(action, side, room);
     }
 }

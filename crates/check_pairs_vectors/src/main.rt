@@ -5,223 +5,210 @@
 mod vectors;
 
 use std::io;
-use std::io::Write;
 
-fn text(rt: &impl Print, label: &[u8]) -> io::Result<()> {
-    io::writer(rt).write_all(label)
-}
-
-fn next(rt: &impl Print, n: u64) -> io::Result<()> {
-    print!(rt; " {n}")
-}
-
-fn end_line(rt: &impl Print) -> io::Result<()> {
-    println!(rt;)
+// A plan of a line under a card, or what is given for one.
+#[derive(Clone, Copy)]
+struct Case<'a> {
+    card: &'a [u8],
+    line: &'a [u8],
+    plan: &'a [u8],
 }
 
 // The plan and then zeros.
 fn filled(plan: &[u8]) -> [u8; 256] {
     let mut bytes = [0u8; 256];
-    for i in 0..plan.len() {
-        if 256 <= i {
-            return bytes;
-        }
-        bytes[i] = plan[i];
-    }
+    let length = plan.len().min(256);
+    bytes[..length].copy_from_slice(&plan[..length]);
     bytes
 }
 
-fn number(card: &[u8], line: &[u8], bytes: [u8; 256], length: usize) -> u64 {
-    if 256 < length {
-        return 0;
+impl<'a> Case<'a> {
+    fn with_card(self, card: &'a [u8]) -> Case<'a> {
+        Case { card, ..self }
     }
-    check_pairs::check(card, line, &bytes[..length])
-}
 
-// 1 where the plan passes with the byte at a place set, 0 where it does not.
-fn passes(card: &[u8], line: &[u8], bytes: [u8; 256], length: usize, at: usize, value: u8) -> u64 {
-    let mut changed = bytes;
-    if 256 <= at {
-        return 0;
+    fn with_line(self, line: &'a [u8]) -> Case<'a> {
+        Case { line, ..self }
     }
-    changed[at] = value;
-    if number(card, line, changed, length) == 0 {
-        return 1;
+
+    // Check's number for these bytes in the plan's stead.
+    fn number(&self, plan: &[u8]) -> u64 {
+        refusals::number(&check_pairs::check(self.card, self.line, plan))
     }
-    0
-}
 
-// Each byte one more, 0 and 255: how many of these plans pass.
-fn three_changes(rt: &impl Print, card: &[u8], line: &[u8], plan: &[u8]) -> io::Result<()> {
-    let bytes = filled(plan);
-    let mut sum: u64 = 0;
-    for at in 0..plan.len() {
-        let more = plan[at].wrapping_add(1);
-        sum = sum.wrapping_add(passes(card, line, bytes, plan.len(), at, more));
-        sum = sum.wrapping_add(passes(card, line, bytes, plan.len(), at, 0));
-        sum = sum.wrapping_add(passes(card, line, bytes, plan.len(), at, 255));
-    }
-    text(rt, b"one more, 0 or 255:")?;
-    next(rt, sum)?;
-    end_line(rt)
-}
-
-fn values_at(card: &[u8], line: &[u8], bytes: [u8; 256], length: usize, at: usize) -> u64 {
-    let mut sum = passes(card, line, bytes, length, at, 255);
-    for value in 0..255u8 {
-        sum = sum.wrapping_add(passes(card, line, bytes, length, at, value));
-    }
-    sum
-}
-
-// Each byte at every value: how many of these plans pass.
-fn all_values(rt: &impl Print, card: &[u8], line: &[u8], plan: &[u8]) -> io::Result<()> {
-    let bytes = filled(plan);
-    let mut sum: u64 = 0;
-    for at in 0..plan.len() {
-        sum = sum.wrapping_add(values_at(card, line, bytes, plan.len(), at));
-    }
-    text(rt, b"any value:")?;
-    next(rt, sum)?;
-    end_line(rt)
-}
-
-fn run(rt: &impl Print, first: usize, last: usize, number: u64) -> io::Result<()> {
-    print!(rt; " {first}-{last}:{number}")
-}
-
-// The numbers of the first 0 to 200 bytes of the plan with zeros after it, as runs of lengths.
-fn lengths(rt: &impl Print, card: &[u8], line: &[u8], plan: &[u8]) -> io::Result<()> {
-    let bytes = filled(plan);
-    let mut first: usize = 0;
-    let mut same = number(card, line, bytes, 0);
-    text(rt, b"lengths")?;
-    for last in 0..200usize {
-        let length = last + 1;
-        let found = number(card, line, bytes, length);
-        if found != same {
-            run(rt, first, last, same)?;
-            first = length;
-            same = found;
+    // Does the plan pass with the byte at a place set?
+    fn passes(&self, at: usize, value: u8) -> bool {
+        let length = self.plan.len();
+        if 256 < length || length <= at {
+            return false;
         }
+        let mut bytes = filled(self.plan);
+        bytes[at] = value;
+        self.number(&bytes[..length]) == 0
     }
-    run(rt, first, 200, same)?;
-    end_line(rt)
-}
 
-fn print_bytes(rt: &impl Print, bytes: [u8; 24]) -> io::Result<()> {
-    for byte in &bytes {
-        next(rt, *byte as u64)?;
+    // Each byte one more, 0 and 255: how many of these plans pass. (The sums wrap, so that nothing has to be known of how many there are.)
+    fn three_changes(&self, rt: &impl Print) -> io::Result<()> {
+        let mut sum: u64 = 0;
+        for (at, byte) in self.plan.iter().enumerate() {
+            for value in [byte.wrapping_add(1), 0, 255] {
+                sum = sum.wrapping_add(u64::from(self.passes(at, value)));
+            }
+        }
+        println!(rt; "one more, 0 or 255: {sum}")
     }
-    Ok(())
-}
 
-// Pairs in the first bytes of a room that is filled with 170: the answer, and then all of the room.
-fn room(rt: &impl Print, card: &[u8], line: &[u8], plan: &[u8], size: usize) -> io::Result<()> {
-    let mut bytes = [170u8; 24];
-    if 24 < size {
-        return Ok(());
+    // Each byte at every value: how many of these plans pass.
+    fn all_values(&self, rt: &impl Print) -> io::Result<()> {
+        let mut sum: u64 = 0;
+        for at in 0..self.plan.len() {
+            for value in 0..=255u8 {
+                sum = sum.wrapping_add(u64::from(self.passes(at, value)));
+            }
+        }
+        println!(rt; "any value: {sum}")
     }
-    let answer = check_pairs::pairs(card, line, plan, &mut bytes[..size]);
-    text(rt, b"room")?;
-    next(rt, size as u64)?;
-    text(rt, b":")?;
-    next(rt, answer.number)?;
-    next(rt, answer.count as u64)?;
-    text(rt, b";")?;
-    print_bytes(rt, bytes)?;
-    end_line(rt)
-}
 
-// The pairs are `size` bytes.
-fn rooms(rt: &impl Print, card: &[u8], line: &[u8], plan: &[u8], size: usize) -> io::Result<()> {
-    room(rt, card, line, plan, 0)?;
-    if 0 < size {
-        room(rt, card, line, plan, size - 1)?;
+    // The numbers of the first 0 to 200 bytes of the plan with zeros after it, as runs of lengths.
+    fn lengths(&self, rt: &impl Print) -> io::Result<()> {
+        let bytes = filled(self.plan);
+        let mut first = 0;
+        let mut same = self.number(b"");
+        print!(rt; "lengths")?;
+        for last in 0..200usize {
+            let length = last + 1;
+            let found = self.number(&bytes[..length]);
+            if found != same {
+                print!(rt; " {first}-{last}:{same}")?;
+                first = length;
+                same = found;
+            }
+        }
+        println!(rt; " {first}-200:{same}")
     }
-    room(rt, card, line, plan, size)?;
-    room(rt, card, line, plan, 24)
+
+    // Pairs in the first bytes of a room that is filled with 170: the number and the count, and then all of the room.
+    fn room(&self, rt: &impl Print, size: usize) -> io::Result<()> {
+        let mut room = [170u8; 24];
+        if 24 < size {
+            return Ok(());
+        }
+        let answer = check_pairs::pairs(self.card, self.line, self.plan, &mut room[..size]);
+        let number = refusals::number(&answer);
+        let count = answer.unwrap_or(0);
+        print!(rt; "room {size}: {number} {count};")?;
+        for byte in room {
+            print!(rt; " {byte}")?;
+        }
+        println!(rt;)
+    }
+
+    // The label, and the number for the plan as it is.
+    fn check(&self, rt: &impl Print, label: &str) -> io::Result<()> {
+        println!(rt; "{label}")?;
+        let number = self.number(self.plan);
+        println!(rt; "check {number}")
+    }
+
+    // All of it; the pairs are `size` bytes.
+    fn every(&self, rt: &impl Print, label: &str, size: usize) -> io::Result<()> {
+        self.check(rt, label)?;
+        self.room(rt, 0)?;
+        self.room(rt, size.saturating_sub(1))?;
+        self.room(rt, size)?;
+        self.room(rt, 24)?;
+        self.three_changes(rt)?;
+        self.all_values(rt)?;
+        self.lengths(rt)
+    }
+
+    // A refusal of Check is Pairs', whatever the room.
+    fn refused(&self, rt: &impl Print, label: &str) -> io::Result<()> {
+        self.check(rt, label)?;
+        self.room(rt, 0)?;
+        self.room(rt, 24)
+    }
 }
 
-fn answer(rt: &impl Print, card: &[u8], line: &[u8], plan: &[u8]) -> io::Result<()> {
-    text(rt, b"check")?;
-    next(rt, check_pairs::check(card, line, plan))?;
-    end_line(rt)
-}
-
-fn every(
-    rt: &impl Print,
-    label: &[u8],
-    card: &[u8],
-    line: &[u8],
-    plan: &[u8],
-    size: usize,
-) -> io::Result<()> {
-    text(rt, label)?;
-    end_line(rt)?;
-    answer(rt, card, line, plan)?;
-    rooms(rt, card, line, plan, size)?;
-    three_changes(rt, card, line, plan)?;
-    all_values(rt, card, line, plan)?;
-    lengths(rt, card, line, plan)
-}
-
-// A refusal of Check is Pairs', whatever the room.
-fn refused(rt: &impl Print, label: &[u8], card: &[u8], line: &[u8], plan: &[u8]) -> io::Result<()> {
-    text(rt, label)?;
-    end_line(rt)?;
-    answer(rt, card, line, plan)?;
-    room(rt, card, line, plan, 0)?;
-    room(rt, card, line, plan, 24)
-}
-
+// Refused each for one thing.
 fn refusals(rt: &impl Print) -> io::Result<()> {
-    let card = vectors::TOMATO;
-    let plan = vectors::PLAN_ONE;
-    let mut other = card;
-    other[0] = b'l';
-    refused(rt, b"another mark", &other, b"coir takes mild", &plan)?;
-    refused(rt, b"no card", b"", b"coir takes mild", &plan)?;
-    refused(rt, b"no line", &card, b"", &plan)?;
-    refused(rt, b"a capital", &card, b"coir takes Mild", &plan)?;
-    refused(rt, b"an unknown word", &card, b"coir gives mild", &plan)?;
-    refused(
-        rt,
-        b"25 words",
-        &card,
+    let case = Case {
+        card: &vectors::TOMATO,
+        line: b"coir takes mild",
+        plan: &vectors::PLAN_ONE,
+    };
+    let mut mark = vectors::TOMATO;
+    mark[0] = b'l';
+    case.with_card(&mark).refused(rt, "another mark")?;
+    case.with_card(b"").refused(rt, "no card")?;
+    case.with_line(b"").refused(rt, "no line")?;
+    case.with_line(b"coir takes Mild").refused(rt, "a capital")?;
+    case.with_line(b"coir gives mild")
+        .refused(rt, "an unknown word")?;
+    case.with_line(
         b"coir coir coir coir coir coir coir coir coir coir coir coir coir coir coir coir coir coir coir coir coir coir coir coir coir",
-        &plan,
-    )?;
-    refused(rt, b"another line", &card, b"coir takes rich", &plan)?;
-    refused(
-        rt,
-        b"mirrored",
-        &card,
-        b"coir wool takes rich mild",
-        &vectors::PLAN_TWO,
-    )?;
-    refused(rt, b"no plan", &card, b"takes", b"")
+    ).refused(rt, "25 words")?;
+    case.with_line(b"coir takes rich")
+        .refused(rt, "another line")?;
+    let mirrored = Case {
+        line: b"coir wool takes rich mild",
+        plan: &vectors::PLAN_TWO,
+        ..case
+    };
+    mirrored.refused(rt, "mirrored")?;
+    let no_plan = Case {
+        line: b"takes",
+        plan: b"",
+        ..case
+    };
+    no_plan.refused(rt, "no plan")
+}
+
+// Document 01's lines.
+fn tomato(rt: &impl Print) -> io::Result<()> {
+    let one = Case {
+        card: &vectors::TOMATO,
+        line: b"coir takes mild",
+        plan: &vectors::PLAN_ONE,
+    };
+    one.every(rt, "coir takes mild", 2)?;
+    let two = Case {
+        line: b"coir wool takes mild rich",
+        plan: &vectors::PLAN_TWO,
+        ..one
+    };
+    two.every(rt, "coir wool takes mild rich", 4)?;
+    let four = Case {
+        line: b"coir coir takes mild mild",
+        plan: &vectors::PLAN_FOUR,
+        ..one
+    };
+    four.every(rt, "coir coir takes mild mild", 4)
+}
+
+fn kinds(rt: &impl Print) -> io::Result<()> {
+    let case = Case {
+        card: &vectors::KINDS,
+        line: &vectors::KINDS_LINE,
+        plan: &vectors::KINDS_PLAN,
+    };
+    case.every(rt, "every kind", 18)
 }
 
 // Sides of several words: a pair has the last word of each.
 fn rows(rt: &impl Print) -> io::Result<()> {
-    let card = vectors::ROWS;
-    every(
-        rt,
-        b"coir 14 takes extra mild",
-        &card,
-        b"coir 14 takes extra mild",
-        &vectors::ROWS_ONE,
-        2,
-    )?;
-    every(
-        rt,
-        b"coir 14 wool 15 takes extra mild rich",
-        &card,
-        b"coir 14 wool 15 takes extra mild rich",
-        &vectors::ROWS_TWO,
-        4,
-    )
+    let one = Case {
+        card: &vectors::ROWS,
+        line: b"coir 14 takes extra mild",
+        plan: &vectors::ROWS_ONE,
+    };
+    one.every(rt, "coir 14 takes extra mild", 2)?;
+    let two = Case {
+        line: b"coir 14 wool 15 takes extra mild rich",
+        plan: &vectors::ROWS_TWO,
+        ..one
+    };
+    two.every(rt, "coir 14 wool 15 takes extra mild rich", 4)
 }
 
 // The second word spelled as the first, and made by the same nonterminal: the word step for "coir" may name either production. The
@@ -234,42 +221,17 @@ fn alike(rt: &impl Print) -> io::Result<()> {
     card[79] = 2;
     card[110] = 2;
     card[122] = 2;
-    every(
-        rt,
-        b"two words spelled alike",
-        &card,
-        b"coir takes mild",
-        &vectors::PLAN_ONE,
-        2,
-    )
+    let case = Case {
+        card: &card,
+        line: b"coir takes mild",
+        plan: &vectors::PLAN_ONE,
+    };
+    case.every(rt, "two words spelled alike", 2)
 }
 
 fn main(rt: HostRuntime) -> io::Result<()> {
-    let card = vectors::TOMATO;
-    let one = vectors::PLAN_ONE;
-    let two = vectors::PLAN_TWO;
-    let four = vectors::PLAN_FOUR;
-    every(&rt, b"coir takes mild", &card, b"coir takes mild", &one, 2)?;
-    every(
-        &rt,
-        b"coir wool takes mild rich",
-        &card,
-        b"coir wool takes mild rich",
-        &two,
-        4,
-    )?;
-    every(
-        &rt,
-        b"coir coir takes mild mild",
-        &card,
-        b"coir coir takes mild mild",
-        &four,
-        4,
-    )?;
-    let kinds = vectors::KINDS;
-    let words = vectors::KINDS_LINE;
-    let plan = vectors::KINDS_PLAN;
-    every(&rt, b"every kind", &kinds, &words, &plan, 18)?;
+    tomato(&rt)?;
+    kinds(&rt)?;
     rows(&rt)?;
     alike(&rt)?;
     refusals(&rt)

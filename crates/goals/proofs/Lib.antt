@@ -1,6 +1,5 @@
 pub mod GoalsTest
 pub mod GoalsTiled
-pub mod FitsLaws
 pub mod ShownLaws
 pub mod AdvanceLaws
 pub mod ReplayLaws

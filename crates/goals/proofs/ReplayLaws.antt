@@ -1,32 +1,32 @@
--- The loop over a plan's bytes: the arrays show where the model stands, and the rest of the bytes passes from there exactly when all of
+-- The loop over a plan's steps: the struct shows where the model stands, and the rest of the bytes passes from there exactly when all of
 -- them pass from the start. Each turn takes four bytes off the rest and one step off the plan that they write.
-use Prim.Native.Nat.{ℕ, suc, ◌+◌, ◌-◌, ◌≤◌, ◌<◌}
+use Prim.Native.Nat.{ℕ, suc, ◌+◌, ◌*◌, ◌/◌, ◌%◌, ◌≤◌, ◌<◌}
 use native.Mathlib.Numerals.{add-one, add-two, add-three, add-four}
 use native.Mathlib.Omega.{arith}
-use mathlib.Core.Path.{◌≡◌, refl, sym, ◌∙◌, ap, subst}
-use mathlib.Core.Bool.{Bool, false}
-use mathlib.Core.List.{List, [], ◌∷◌, ◌++◌}
+use mathlib.Core.Path.{◌≡◌, refl, sym, ◌∙◌, ap}
+use mathlib.Core.Bool.{Bool, true, false}
+use mathlib.Core.List.{List, [], ◌∷◌}
 use mathlib.Core.Option.{Option, none, some}
+use lib.Bits.{bit_and, and_mask}
 use lib.Dec.{eqb}
-use lib.ListN.{length, drop, get_or, set, replicate, length-append, length-drop, drop_of_length-le}
+use lib.ListN.{length, drop, get_or, length-append, drop_of_length-le}
 use lib.Seq.{drop-cons}
 use borrow.Author.Tests.{eq-eqb, ne_eqb}
 use Rattle.grammar.specs.Rewriting.{Rule}
 use Rattle.places.specs.Places.{word_test}
-use Rattle.grammar.specs.Plan.{PlanStep}
+use Rattle.grammar.specs.Plan.{PlanStep, plan_step}
 use Rattle.layout.specs.Card.{grammar_of}
 use Rattle.layout.specs.Steps.{and_step, steps_of}
 use Rattle.goals.specs.Goals.{Goal, goal, Standing, stuck, standing, all_reached, next, goals_run, goals_start, replay_from, Tiled}
-use Rattle.goals.specs.Shown.{tops, names_of, indices_of, arrays, Shows, ShowsAt, Within, step_from, StepAt, Tells, Replayed}
-use Rattle.goals.specs.declared.replay.Stand.{Stand}
+use Rattle.goals.specs.Shown.{no_goal, indices_of, entries_of, last_entry, started, Shows, ShowsAt, Within, step_from, StepAt, Replayed}
+use Rattle.goals.specs.declared.replay.Goal as code
+use Rattle.goals.specs.declared.replay.Goals.{Goals}
 use Rattle.goals.specs.declared.replay.StepBytes.{StepBytes}
-use Rattle.goals.specs.declared.replay.Turn.{Turn}
-use Rattle.goals.specs.declared.replay.Turn.TheVariants.{Stuck, To}
 use Rattle.goals.proofs.GoalsTiled.{TiledAt, tiled-start, tiled-few, next-tiled}
-use Rattle.goals.proofs.ShownLaws.{tops-length, first-base}
+use Rattle.goals.proofs.ShownLaws.{tops-length, first-entry}
 
 -- Four bytes at a place.
-pub drop-four : (l : List ℕ) (at : ℕ) → at + 4 ≤ length l
+drop-four : (l : List ℕ) (at : ℕ) → at + 4 ≤ length l
     → drop at l ≡ get_or l at 0 ∷ get_or l (at + 1) 0 ∷ get_or l (at + 2) 0 ∷ get_or l (at + 3) 0 ∷ drop (at + 4) l
 drop-four l at h =
     rw (add-one, add-two, add-three, add-four)
@@ -42,13 +42,13 @@ pub steps-from : (plan : List ℕ) (at : ℕ) (st : StepBytes) → at + 4 ≤ le
 steps-from plan at st h s =
     ap steps_of (drop-four plan at h) ∙ rw (← s.number, ← s.start, ← s.split, ← s.end)
 
--- Fewer than four bytes, but some, are no plan.
-short-rest : (l : List ℕ) → 0 < length l → length l < 4 → steps_of l ≡ none
-short-rest [] h k = absurd (omega arith)
-short-rest (a ∷ []) h k = refl
-short-rest (a ∷ b ∷ []) h k = refl
-short-rest (a ∷ b ∷ c ∷ []) h k = refl
-short-rest (a ∷ b ∷ c ∷ d ∷ l) h k = absurd (omega arith)
+-- Bytes whose number is no multiple of 4 are no plan.
+ragged : (l : List ℕ) → (length l % 4 ≡ 0 → ⊥) → steps_of l ≡ none
+ragged [] h = absurd (h refl)
+ragged (a ∷ []) h = refl
+ragged (a ∷ b ∷ []) h = refl
+ragged (a ∷ b ∷ c ∷ []) h = refl
+ragged (a ∷ b ∷ c ∷ d ∷ l) h = ap (and_step (plan_step a b c d)) (ragged l (λ e. h (omega arith)))
 
 run-stuck : (g : List Rule) (at : ℕ → ℕ → Bool) (plan : List PlanStep) → goals_run g at plan stuck ≡ false
 run-stuck g at [] = refl
@@ -63,128 +63,96 @@ step_from_lem : (g : List Rule) (at : ℕ → ℕ → Bool) (S : Standing) (st :
 step_from_lem g at S st none = refl
 step_from_lem g at S st (some plan) = refl
 
-count-reached : (names : List ℕ) (count i : ℕ) (goals : List Goal) → tops names count ≡ names_of goals
-    → eqb count 0 ≡ all_reached (standing i goals)
-count-reached names count i [] e = eq-eqb count 0 (sym (tops-length names count) ∙ ap length e)
-count-reached names count i (goal A s j ∷ rest) e =
-    let d : count ≡ suc (length (names_of rest)) = sym (tops-length names count) ∙ ap length e in ne_eqb count 0 (λ z. omega arith)
+entries-length : (goals : List Goal) → length (entries_of goals) ≡ length goals
+entries-length [] = refl
+entries-length (goal A s j ∷ rest) = ap suc (entries-length rest)
 
--- What the loop keeps.
-pub record Replaying (card places : List ℕ) (n : ℕ) (plan names ends bases stack : List ℕ) (stand : Stand) (at : ℕ) : Type 0 where
-  pub goals : List Goal
-  pub tiles : Tiled stand.place n goals
-  pub shows : Shows names ends bases stack stand.count stand.top goals
-  pub ahead : at ≤ length plan
-  pub same : replay_from (grammar_of card) (word_test places) (standing stand.place goals) (steps_of (drop at plan))
-      ≡ replay_from (grammar_of card) (word_test places) (goals_start n) (steps_of plan)
+count-is : {g : Goals} {goals : List Goal} → Shows g goals → g.count ≡ length goals
+count-is {g} {goals} x = omega (arith, tops-length no_goal g.goals g.count, ap length x.shown_goals, entries-length goals)
+
+top-is : {g : Goals} {goals : List Goal} → Shows g goals → g.top ≡ length (indices_of goals)
+top-is {g} x = omega (arith, tops-length 0 g.stack g.top, ap length x.shown_stack)
+
+-- A base is below the stack that is shown.
+base-below : (g : Goals) (goals : List Goal) → Shows g goals → 0 < g.count → (last_entry g).base ≤ g.top
+base-below g [] x h = absurd (omega (arith, count-is x))
+base-below g (goal A s j ∷ rest) x h =
+    omega (arith, ap (λ (y : code.Goal). y.base) (first-entry g A j s rest x), top-is x, length-append s (indices_of rest))
+
+count-reached : (count i : ℕ) (goals : List Goal) → count ≡ length goals → eqb count 0 ≡ all_reached (standing i goals)
+count-reached count i [] e = eq-eqb count 0 e
+count-reached count i (x ∷ rest) e = ne_eqb count 0 (λ z. omega arith)
 
 module _ (card places : List ℕ) (n : ℕ) (plan : List ℕ) where
-  pub replay-start : 0 < n
-      → Replaying card places n plan (replicate 25 0) (set (replicate 25 0) 0 n) (replicate 25 0) (replicate 25 0)
-      (record { count = 1; top = 0; place = 0 }) 0
+  abbrev passes : Standing → List ℕ → Bool
+  passes S bytes = replay_from (grammar_of card) (word_test places) S (steps_of bytes)
+
+  abbrev Answer : Bool
+  Answer = passes (goals_start n) plan
+
+  -- What the loop keeps, at step k.
+  pub record Replaying (g : Goals) (k : ℕ) : Type 0 where
+    pub goals : List Goal
+    pub tiles : Tiled g.place n goals
+    pub shows : Shows g goals
+    pub same : passes (standing g.place goals) (drop (4 * k) plan) ≡ Answer
+
+  pub replay-ragged : (bit_and (length plan) 3 ≡ 0 → ⊥) → false ≡ Answer
+  replay-ragged h =
+      ap (replay_from (grammar_of card) (word_test places) (goals_start n))
+      (sym (ragged plan (λ e. h (and_mask (length plan) 2 ∙ e))))
+
+  pub replay-start : 0 < n → Replaying (started n) 0
   replay-start h = record {
     goals = goal 0 [] n ∷ [];
     tiles = tiled-start n h;
-    shows = record {
-      all_names = refl;
-      all_ends = refl;
-      all_bases = refl;
-      all_stack = refl;
-      shown_names = refl;
-      shown_ends = refl;
-      shown_bases = refl;
-      shown_stack = refl;
-    };
-    ahead = omega arith;
+    shows = record { all_goals = refl; all_stack = refl; shown_goals = refl; shown_stack = refl };
     same = refl;
   }
 
-  module _ (names ends bases stack : List ℕ) (stand : Stand) (at : ℕ) (x : Replaying card places n plan names ends bases stack stand at) where
+  module _ (g : Goals) (k : ℕ) (x : Replaying g k) where
     -- The goals and indices are few, as they tile the line.
-    shown-few : stand.place + stand.count + stand.top ≤ n
-    shown-few =
-        let e₁ : stand.count ≡ length (names_of x.goals) = sym (tops-length names stand.count) ∙ ap length x.shows.shown_names in
-        let e₂ : stand.top ≡ length (indices_of x.goals) = sym (tops-length stack stand.top) ∙ ap length x.shows.shown_stack in
-        omega (arith, tiled-few x.tiles, names-length x.goals)
-      where
-        names-length : (goals : List Goal) → length (names_of goals) ≡ length goals
-        names-length [] = refl
-        names-length (goal A s j ∷ rest) = ap suc (names-length rest)
-
-    pub replay-within : n ≤ 24 → Within bases stand
-    replay-within h = record {
-      few_goals = omega (arith, shown-few);
-      few_indices = omega (arith, shown-few);
-      in_line = λ c. omega (arith, shown-few);
-      based = λ c. base-below c x.goals x.shows;
-    }
-      where
-        base-below : 0 < stand.count → (goals : List Goal) → Shows names ends bases stack stand.count stand.top goals
-            → get_or bases (stand.count - 1) 0 ≤ stand.top
-        base-below c [] y =
-            let e : stand.count ≡ 0 = sym (tops-length names stand.count) ∙ ap length y.shown_names in absurd (omega arith)
-        base-below c (goal A s j ∷ rest) y =
-            let e : stand.count ≡ suc (stand.count - 1) = omega arith in
-            let b = first-base names ends bases stack (stand.count - 1) stand.top A j s rest
-            (subst (λ (m : ℕ). Shows names ends bases stack m stand.top (goal A s j ∷ rest)) e y) in
-            let d : stand.top ≡ length (s ++ indices_of rest) = sym (tops-length stack stand.top) ∙ ap length y.shown_stack in
-            omega (arith, length-append s (indices_of rest))
-
-    abbrev Answer : Bool
-    Answer = replay_from (grammar_of card) (word_test places) (goals_start n) (steps_of plan)
-
-    -- Some bytes are left over.
-    pub replay-short : at < length plan → length plan - at < 4 → false ≡ Answer
-    replay-short h l =
-        ap (replay_from (grammar_of card) (word_test places) (standing stand.place x.goals))
-        (sym (short-rest (drop at plan) (rw length-drop (omega arith)) (rw length-drop l)))
-        ∙ x.same
+    pub replay-within : n ≤ 24 → Within g
+    replay-within h =
+        let few = tiled-few x.tiles in
+        let c = count-is x.shows in
+        let t = top-is x.shows in
+        record {
+          few_goals = omega arith;
+          few_indices = omega arith;
+          in_line = λ p. omega arith;
+          based = base-below g x.goals x.shows;
+        }
 
     -- All bytes are read.
-    pub replay-over : length plan ≤ at → eqb stand.count 0 ≡ Answer
-    replay-over h =
-        count-reached names stand.count stand.place x.goals x.shows.shown_names
-        ∙ (ap (λ (l : List ℕ). replay_from (grammar_of card) (word_test places) (standing stand.place x.goals) (steps_of l))
-        (sym (drop_of_length-le plan h))
+    pub replay-over : bit_and (length plan) 3 ≡ 0 → length plan / 4 ≤ k → eqb g.count 0 ≡ Answer
+    replay-over h l =
+        count-reached g.count g.place x.goals (count-is x.shows)
+        ∙ (ap (passes (standing g.place x.goals)) (sym (drop_of_length-le plan (omega (arith, and_mask (length plan) 2))))
         ∙ x.same)
 
-    module _ (st : StepBytes) (here : at + 4 ≤ length plan) (s : StepAt plan at st)
-        (names' ends' bases' stack' : List ℕ) (r : Turn)
-        (y : Replayed card places st (arrays names ends bases stack) stand (arrays names' ends' bases' stack') r) where
-      rest-same : replay_from (grammar_of card) (word_test places)
-          (next (grammar_of card) (word_test places) (step_from st) (standing stand.place x.goals)) (steps_of (drop (at + 4) plan))
-          ≡ Answer
+    module _ (st : StepBytes) (here : 4 * k + 4 ≤ length plan) (s : StepAt plan (4 * k) st) (g' : Goals) where
+      abbrev Then : Standing
+      Then = next (grammar_of card) (word_test places) (step_from st) (standing g.place x.goals)
+
+      rest-same : passes Then (drop (4 * k + 4) plan) ≡ Answer
       rest-same =
-          sym (step_from_lem (grammar_of card) (word_test places) (standing stand.place x.goals) (step_from st) (steps_of (drop (at + 4) plan)))
-          ∙ (ap (replay_from (grammar_of card) (word_test places) (standing stand.place x.goals)) (sym (steps-from plan at st here s))
+          sym (step_from_lem (grammar_of card) (word_test places) (standing g.place x.goals) (step_from st) (steps_of (drop (4 * k + 4) plan)))
+          ∙ (ap (replay_from (grammar_of card) (word_test places) (standing g.place x.goals)) (sym (steps-from plan (4 * k) st here s))
           ∙ x.same)
 
-      told : Tells (arrays names' ends' bases' stack') r (next (grammar_of card) (word_test places) (step_from st) (standing stand.place x.goals))
-      told = y.told x.goals x.shows
+      pub replay-stuck : Replayed card places st g g' false → false ≡ Answer
+      replay-stuck y =
+          sym (stuck-from (grammar_of card) (word_test places) (steps_of (drop (4 * k + 4) plan)))
+          ∙ (ap (λ (S : Standing). passes S (drop (4 * k + 4) plan)) (sym (y.told x.goals x.shows)) ∙ rest-same)
 
-      pub replay-stuck : r ≡ Stuck → false ≡ Answer
-      replay-stuck e =
-          let g = grammar_of card in
-          let test = word_test places in
-          let S = next g test (step_from st) (standing stand.place x.goals) in
-          let d : S ≡ stuck = subst (λ (r : Turn). Tells (arrays names' ends' bases' stack') r S) e told in
-          sym (stuck-from g test (steps_of (drop (at + 4) plan)))
-          ∙ (ap (λ (S : Standing). replay_from g test S (steps_of (drop (at + 4) plan))) (sym d) ∙ rest-same)
-
-      pub replay-on : (to : Stand) → r ≡ To to → Replaying card places n plan names' ends' bases' stack' to (at + 4)
-      replay-on to e =
-          let S = next (grammar_of card) (word_test places) (step_from st) (standing stand.place x.goals) in
-          go S (subst (λ (r : Turn). Tells (arrays names' ends' bases' stack') r S) e told)
-          (next-tiled (grammar_of card) (word_test places) (step_from st) n (standing stand.place x.goals) x.tiles) rest-same
+      pub replay-on : Replayed card places st g g' true → Replaying g' (k + 1)
+      replay-on y =
+          go Then (y.told x.goals x.shows)
+          (next-tiled (grammar_of card) (word_test places) (step_from st) n (standing g.place x.goals) x.tiles) rest-same
         where
-          go : (S : Standing) → ShowsAt names' ends' bases' stack' to S → TiledAt n S
-              → replay_from (grammar_of card) (word_test places) S (steps_of (drop (at + 4) plan)) ≡ Answer
-              → Replaying card places n plan names' ends' bases' stack' to (at + 4)
+          go : (S : Standing) → ShowsAt g' S → TiledAt n S → passes S (drop (4 * k + 4) plan) ≡ Answer → Replaying g' (k + 1)
           go stuck w t d = absurd w
-          go (standing i goals) w t d = record {
-            goals = goals;
-            tiles = rw w.0 t;
-            shows = w.1;
-            ahead = here;
-            same = rw w.0 d;
-          }
+          go (standing i goals) w t d =
+              let q : 4 * (k + 1) ≡ 4 * k + 4 = omega arith in
+              record { goals = goals; tiles = rw w.0 t; shows = w.1; same = rw (w.0, q) d }

@@ -1,17 +1,16 @@
 // A plan is replayed on goals (specs/Goals.antt): the nonterminals that are still to be replaced, leftmost on top.
-ghost use Rattle.std.specs.Prelude.{◌≡◌, ◌&&◌, ◌<◌, ◌≤◌, ◌+◌, ◌-◌, length, ltb};
+ghost use Rattle.std.specs.Prelude.{◌≡◌, ◌&&◌, ◌<◌, ◌≤◌, ◌+◌, length, ltb};
 ghost use Rattle.places.specs.Places.{word_test};
-ghost use Rattle.layout.specs.Card.{grammar_of, card_number};
+ghost use Rattle.layout.specs.Card.{grammar_of};
 ghost use Rattle.layout.specs.Steps.{steps_of};
 ghost use Rattle.grammar.specs.Rewriting.{Lexical};
 ghost use Rattle.card.specs.Productions.{action_from, rule_from};
 ghost use Rattle.goals.specs.Goals as model;
-ghost use Rattle.goals.specs.Shown.{tops, arrays, stand_of, action_of, CanTake, Acted, Opened, Room, Replaced};
-ghost use Rattle.goals.specs.Shown.{Within, FirstGoal, split_fits_top, fits_top, StepAt, RulesOf, Replayed};
+ghost use Rattle.goals.specs.Shown.{tops, action_of, CanTake, acted, opened, Room, replaced_in, started};
+ghost use Rattle.goals.specs.Shown.{Within, first_of, split_fits_top, fits_top, StepAt, Replayed};
 
 use card::{Action, Card, Production};
-use octets::wide;
-use places::MOST_WORDS;
+use places::{MOST_WORDS, Words};
 
 // A step of a plan as its four bytes: the production's number, and its stretch with the split.
 #[derive(Clone, Copy)]
@@ -24,278 +23,217 @@ pub struct StepBytes {
 
 // The goal on top: its nonterminal, how deep its stack is, the index on top of that, and its stretch.
 #[derive(Clone, Copy)]
-pub struct Top {
-    pub name: u8,
-    pub depth: usize,
-    pub index: u8,
-    pub start: usize,
-    pub end: usize,
-}
-
-// Where the replay stands: how many goals and indices there are, and the place up to which all words are reached.
-#[derive(Clone, Copy)]
-pub struct Stand {
-    pub count: usize,
-    pub top: usize,
-    pub place: usize,
-}
-
-// The productions of a card: where their table starts, and how many there are.
-#[derive(Clone, Copy)]
-pub struct Rules {
-    pub table: usize,
-    pub count: usize,
+struct Top {
+    name: u8,
+    depth: u8,
+    index: u8,
+    start: u8,
+    end: u8,
 }
 
 // One entry more than a line has words, so that the next one's place is always there.
 pub const ENTRIES: usize = MOST_WORDS + 1;
 
+// A goal: its nonterminal, where its stretch ends, and where its own indices begin in the stack of all. All are bytes, as in a step: so the
+// goals are small, and are soon filled in.
 #[derive(Clone, Copy)]
-pub enum Turn {
-    Stuck,
-    To(Stand),
+struct Goal {
+    name: u8,
+    end: u8,
+    base: u8,
 }
 
-fn word_fits(left: u8, word: u8, top: Top, split: usize, here: u32) -> bool
-    requires { top.start < 256 }
-    ensures { result ≡ fits_top (Lexical left word) here top split }
-{
-    if left != top.name {
-        return false;
-    }
-    if top.depth != 0 {
-        return false;
-    }
-    if split != top.end {
-        return false;
-    }
-    if top.end != top.start + 1 {
-        return false;
-    }
-    bits::has(here, word)
+// The goals, the first one last, and the indices of all their stacks: how many there are of each, and the place up to which all words are
+// reached. That they are few follows from how goals tile the line, which no method keeps by itself: so it stands in contracts.
+#[derive(Drop)]
+struct Goals {
+    goals: [Goal; ENTRIES],
+    count: usize,
+    stack: [u8; ENTRIES],
+    top: u8,
+    place: u8,
 }
 
-// Does the action fit the stack, and leave one that is less deep than `span`?
-fn action_fits(action: Action, depth: usize, index: u8, span: usize) -> bool
-    requires { depth < 256 }
-    ensures { result ≡ (model.action_fits (action_from action) depth index
-        && ltb (model.depth_after (action_from action) depth) span) }
-{
-    match action {
-        Action::Take(g) => {
-            if depth == 0 {
-                return false;
+impl Top {
+    // Is the goal the left side's, bare, over the one word at its start, and is `word` among those that stand there?
+    fn word_fits(self, left: u8, word: u8, split: u8, here: u32) -> bool
+        requires { self.start < 255 }
+        ensures { result ≡ fits_top (Lexical left word) here self split }
+    {
+        left == self.name
+            && self.depth == 0
+            && split == self.end
+            && self.end == self.start + 1
+            && bits::has(here, word)
+    }
+
+    // Does the action fit the stack, and leave one that is less deep than `span`?
+    fn action_fits(self, action: Action, span: u8) -> bool
+        requires { self.depth < 255 }
+        ensures { result ≡ (model.action_fits (action_from action) self.depth self.index
+            && ltb (model.depth_after (action_from action) self.depth) span) }
+    {
+        match action {
+            Action::Take(g) => self.depth != 0 && g == self.index && self.depth - 1 < span,
+            Action::Keep => self.depth < span,
+            Action::Give(_) => self.depth + 1 < span,
+        }
+    }
+
+    // Is the goal the left side's, and does the split leave some words to either element?
+    fn split_fits(self, left: u8, split: u8) -> bool
+        ensures { result ≡ split_fits_top left self split }
+    {
+        self.name == left && self.start < split && split < self.end
+    }
+
+    // Does the production fit the goal, with this split and the set of the words at its start?
+    fn fits(self, production: Production, split: u8, here: u32) -> bool
+        requires { (self.start < 255) × (self.depth < 255) }
+        ensures { result ≡ fits_top (rule_from production) here self split }
+    {
+        match production {
+            Production::Word { left, word } => self.word_fits(left, word, split, here),
+            Production::SideFirst { left, action, .. } => {
+                self.split_fits(left, split) && self.action_fits(action, self.end - split)
             }
-            if g != index {
-                return false;
+            Production::SideLast { left, action, .. } => {
+                self.split_fits(left, split) && self.action_fits(action, split - self.start)
             }
-            depth - 1 < span
         }
-        Action::Keep => depth < span,
-        Action::Give(_) => depth + 1 < span,
     }
 }
 
-// Is the goal the left side's, and does the split leave some words to either element?
-fn split_fits(left: u8, top: Top, split: usize) -> bool
-    ensures { result ≡ split_fits_top left top split }
-{
-    if top.name != left {
-        return false;
+impl Goals {
+    // One goal, the start nonterminal over all n words.
+    fn start(n: u8) -> Self
+        ensures { result ≡ started n }
+    {
+        let mut goals = [Goal {
+            name: 0,
+            end: 0,
+            base: 0,
+        }; ENTRIES];
+        goals[0].end = n;
+        Goals {
+            goals,
+            count: 1,
+            stack: [0; ENTRIES],
+            top: 0,
+            place: 0,
+        }
     }
-    if split <= top.start {
-        return false;
-    }
-    split < top.end
-}
 
-fn fits(production: Production, top: Top, split: usize, here: u32) -> bool
-    requires { (top.start < 256) × (top.depth < 256) }
-    ensures { result ≡ fits_top (rule_from production) here top split }
-{
-    match production {
-        Production::Word { left, word } => word_fits(left, word, top, split, here),
-        Production::SideFirst {
-            left,
-            action,
-            side: _,
-            dependent: _,
-        } => {
-            if !split_fits(left, top, split) {
-                return false;
+    // The index on top of all stacks, 0 where there is none.
+    fn last_index(&self) -> u8
+        requires { self.now.top ≤ 24 }
+        ensures { result ≡ model.top_index (tops 0 self.now.stack self.now.top) }
+    {
+        if self.top == 0 {
+            return 0;
+        }
+        self.stack[usize::from(self.top) - 1]
+    }
+
+    // The first goal as productions are tried on it, if one is left.
+    fn first(&self) -> Option<Top>
+        requires { Within self.now }
+        ensures { result ≡ first_of self.now }
+    {
+        let m = self.count.checked_sub(1)?;
+        let goal = self.goals[m];
+        Some(Top {
+            name: goal.name,
+            depth: self.top - goal.base,
+            index: self.last_index(),
+            start: self.place,
+            end: goal.end,
+        })
+    }
+
+    // An action that fits acts on the first goal's stack.
+    fn act(&mut self, action: Action)
+        requires { (self.old.top ≤ 24) × CanTake (action_from action) self.old.top }
+        ensures { self.new ≡ acted (action_from action) self.old }
+    {
+        match action {
+            Action::Take(_) => self.top -= 1,
+            Action::Keep => {}
+            Action::Give(g) => {
+                self.stack[usize::from(self.top)] = g;
+                self.top += 1;
             }
-            action_fits(action, top.depth, top.index, top.end - split)
         }
-        Production::SideLast {
-            left,
-            action,
-            dependent: _,
-            side: _,
-        } => {
-            if !split_fits(left, top, split) {
-                return false;
+    }
+
+    // Two goals where the first stood, the first element on top: the second has the end and the base that were there.
+    fn open_pair(&mut self, first: u8, second: u8, split: u8, base: u8)
+        requires { (0 < self.old.count) × (self.old.count ≤ 24) }
+        ensures { self.new ≡ opened first second split base self.old }
+    {
+        self.goals[self.count - 1].name = second;
+        self.goals[self.count] = Goal {
+            name: first,
+            end: split,
+            base,
+        };
+        self.count += 1;
+    }
+
+    // A production that fits replaces the first goal: a word is reached, or a pair is opened.
+    fn replace(&mut self, production: Production, split: u8)
+        requires { Room (action_of (rule_from production)) self.old }
+        ensures { self.new ≡ replaced_in (rule_from production) split self.old }
+    {
+        match production {
+            Production::Word { .. } => {
+                self.count -= 1;
+                self.place = self.goals[self.count].end;
             }
-            action_fits(action, top.depth, top.index, split - top.start)
+            Production::SideFirst {
+                action,
+                side,
+                dependent,
+                ..
+            } => {
+                self.act(action);
+                self.open_pair(side, dependent, split, self.top);
+            }
+            Production::SideLast {
+                action,
+                dependent,
+                side,
+                ..
+            } => {
+                let base = self.goals[self.count - 1].base;
+                self.act(action);
+                self.open_pair(dependent, side, split, base);
+            }
         }
     }
-}
 
-// The stack after an action that fits: how many indices it has then.
-fn act(action: Action, stack: &mut [u8; ENTRIES], top: usize) -> usize
-    requires { (top ≤ 24) × CanTake (action_from action) top }
-    ensures { Acted (action_from action) stack.old top stack.new result }
-{
-    match action {
-        Action::Take(_) => top - 1,
-        Action::Keep => top,
-        Action::Give(g) => {
-            stack[top] = g;
-            top + 1
+    // One step: it has to be of the first goal's stretch, and its production has to be there and to fit.
+    fn advance(&mut self, card: Card, words: &Words, step: StepBytes) -> bool
+        requires { Within self.old }
+        ensures { Replayed card.entry.bytes.now words.now.places step self.old self.new result }
+    {
+        let Some(top) = self.first() else {
+            return false;
+        };
+        if step.start != top.start || step.end != top.end {
+            return false;
         }
-    }
-}
-
-fn stand_at(count: usize, top: usize, place: usize) -> Stand
-    ensures { result ≡ stand_of count top place }
-{
-    Stand { count, top, place }
-}
-
-// Two goals where goal m stood, the first element on top: the second has the end and the base that were there.
-fn open_pair(
-    names: &mut [u8; ENTRIES],
-    ends: &mut [usize; ENTRIES],
-    bases: &mut [usize; ENTRIES],
-    m: usize,
-    first: u8,
-    second: u8,
-    split: usize,
-    base: usize,
-)
-    requires { m < 24 }
-    ensures { Opened names.old ends.old bases.old m first second split base
-        names.new ends.new bases.new }
-{
-    names[m] = second;
-    names[m + 1] = first;
-    ends[m + 1] = split;
-    bases[m + 1] = base;
-}
-
-// The goals after a production that fits: a word is reached, or a pair is opened.
-fn replace(
-    production: Production,
-    split: usize,
-    stand: Stand,
-    names: &mut [u8; ENTRIES],
-    ends: &mut [usize; ENTRIES],
-    bases: &mut [usize; ENTRIES],
-    stack: &mut [u8; ENTRIES],
-) -> Stand
-    requires { Room (action_of (rule_from production)) stand.count stand.top }
-    ensures { Replaced (rule_from production) split
-        (arrays names.old ends.old bases.old stack.old) stand
-        (arrays names.new ends.new bases.new stack.new) result }
-{
-    let m = stand.count - 1;
-    let top = stand.top;
-    match production {
-        Production::Word { left: _, word: _ } => stand_at(m, top, ends[m]),
-        Production::SideFirst {
-            left: _,
-            action,
-            side,
-            dependent,
-        } => {
-            let next = act(action, stack, top);
-            open_pair(names, ends, bases, m, side, dependent, split, next);
-            stand_at(m + 2, next, stand.place)
+        let number = usize::from(step.number);
+        if card.productions() <= number {
+            return false;
         }
-        Production::SideLast {
-            left: _,
-            action,
-            dependent,
-            side,
-        } => {
-            let base = bases[m];
-            let next = act(action, stack, top);
-            open_pair(names, ends, bases, m, dependent, side, split, base);
-            stand_at(m + 2, next, stand.place)
+        let production = card.production(number);
+        if !top.fits(production, step.split, words.places[usize::from(top.start)]) {
+            return false;
         }
+        self.replace(production, step.split);
+        true
     }
-}
-
-// The index on top of all stacks, 0 where there is none.
-fn last(stack: &[u8; ENTRIES], top: usize) -> u8
-    requires { top ≤ 24 }
-    ensures { result ≡ model.top_index (tops stack.now top) }
-{
-    if top == 0 {
-        return 0;
-    }
-    stack[top - 1]
-}
-
-fn first_goal(
-    names: &[u8; ENTRIES],
-    ends: &[usize; ENTRIES],
-    bases: &[usize; ENTRIES],
-    stack: &[u8; ENTRIES],
-    stand: Stand,
-) -> Top
-    requires { (0 < stand.count) × Within bases.now stand }
-    ensures { FirstGoal
-        (arrays names.now ends.now bases.now stack.now) stand result }
-{
-    let m = stand.count - 1;
-    let top = stand.top;
-    Top {
-        name: names[m],
-        depth: top - bases[m],
-        index: last(stack, top),
-        start: stand.place,
-        end: ends[m],
-    }
-}
-
-// One step: it has to be of the first goal's stretch, and its production has to be there and to fit.
-fn advance(
-    card: &[u8],
-    rules: Rules,
-    places: &[u32; MOST_WORDS],
-    step: StepBytes,
-    stand: Stand,
-    names: &mut [u8; ENTRIES],
-    ends: &mut [usize; ENTRIES],
-    bases: &mut [usize; ENTRIES],
-    stack: &mut [u8; ENTRIES],
-) -> Turn
-    requires { RulesOf card.now rules × Within bases.old stand }
-    ensures { Replayed card.now places.now step
-        (arrays names.old ends.old bases.old stack.old) stand
-        (arrays names.new ends.new bases.new stack.new) result }
-{
-    if stand.count == 0 {
-        return Turn::Stuck;
-    }
-    let top = first_goal(names, ends, bases, stack, stand);
-    let place = top.start;
-    if wide(step.start) != place {
-        return Turn::Stuck;
-    }
-    if wide(step.end) != top.end {
-        return Turn::Stuck;
-    }
-    let number = wide(step.number);
-    if rules.count <= number {
-        return Turn::Stuck;
-    }
-    let production = Card::production(card, rules.table, number);
-    let split = wide(step.split);
-    if !fits(production, top, split, places[place]) {
-        return Turn::Stuck;
-    }
-    Turn::To(replace(production, split, stand, names, ends, bases, stack))
 }
 
 pub fn step_at(plan: &[u8], at: usize) -> StepBytes
@@ -310,41 +248,21 @@ pub fn step_at(plan: &[u8], at: usize) -> StepBytes
     }
 }
 
-// Does the plan, all its bytes, derive the line of `n` words? The first step that cannot stand ends it. There are never more goals or
-// indices than words.
-pub fn replay(card: &[u8], places: &[u32; MOST_WORDS], n: usize, plan: &[u8]) -> bool
-    requires { (card_number card.now ≡ 0) × (0 < n) × (n ≤ 24) }
-    ensures { result ≡ model.replay_from (grammar_of card.now) (word_test places.now)
-        (model.goals_start n) (steps_of plan.now) }
+// Does the plan, all its bytes, derive the line? The first step that cannot stand ends it. There are never more goals or indices than
+// words.
+pub fn replay(card: Card, words: &Words, plan: &[u8]) -> bool
+    ensures { result ≡ model.replay_from (grammar_of card.entry.bytes.now) (word_test words.now.places)
+        (model.goals_start words.now.count) (steps_of plan.now) }
 {
-    let view = Card::of(card);
-    let rules = Rules {
-        table: view.production_table(),
-        count: view.productions,
-    };
-    let mut names = [0u8; ENTRIES];
-    let mut ends = [0usize; ENTRIES];
-    let mut bases = [0usize; ENTRIES];
-    let mut stack = [0u8; ENTRIES];
-    ends[0] = n;
-    let mut stand = Stand {
-        count: 1,
-        top: 0,
-        place: 0,
-    };
-    let mut at = 0;
-    while at < plan.len() {
-        if plan.len() - at < 4 {
+    if plan.len() & 3 != 0 {
+        return false;
+    }
+    let mut goals = Goals::start(words.count as u8);
+    // No `chunks_exact` or `as_chunks`: they divide, and the archive has no division.
+    for k in 0..plan.len() >> 2 {
+        if !goals.advance(card, words, step_at(plan, 4 * k)) {
             return false;
         }
-        let step = step_at(plan, at);
-        let Turn::To(next) = advance(
-            card, rules, places, step, stand, &mut names, &mut ends, &mut bases, &mut stack,
-        ) else {
-            return false;
-        };
-        stand = next;
-        at += 4;
     }
-    stand.count == 0
+    goals.count == 0
 }

@@ -4,17 +4,23 @@ use native.Mathlib.Omega.{arith}
 use mathlib.Core.Path.{◌≡◌, refl, sym, ◌∙◌, ap, subst}
 use mathlib.Core.List.{List}
 use lib.Dec.{eqb}
-use borrow.Author.Tests.{eq-eqb, ne_eqb}
 use lib.ListN.{length}
-use Rattle.layout.specs.Card.{entry_at, spelling_length}
 use Rattle.layout.specs.Answers.{read_packed, pack, chart_state, ChartAfter, PlanAfter}
-use Rattle.layout.specs.Answers.{name_number, name_answer, name_packed}
+use Rattle.layout.specs.Card.{entry_at, spelling_length}
+use Rattle.layout.specs.Answers.{NameAnswer, name_number, name_answer}
+use Rattle.layout.proofs.ViewLaws.{header-most}
 use Rattle.layout.proofs.Accepting.{most_number}
+use Rattle.card.proofs.Accepted.{known-word}
+use borrow.Author.Tests.{eqb-true}
+use mathlib.Core.Bool.{Bool, true, false, cond}
 use Rattle.layout.proofs.Packing.{ReadFits, read_fits, pairs-fit}
 use Rattle.reader.specs.Read.{answer_from, Reads}
-use Rattle.reader.specs.declared.read.Answer.{Answer}
+use Rattle.std.specs.Prelude.{Result}
+use Rattle.refusals.specs.declared.Refusal.{Refusal}
+use Rattle.refusals.specs.Number.{count_in}
+use Rattle.refusals.specs.Number as answers
+use Rattle.reader.specs.declared.read.Reading.{Reading}
 use Rattle.check_pairs.specs.Paired.{Pairs}
-use Rattle.check_pairs.specs.declared.Paired.{Paired}
 use Rattle.sheet.specs.Sheet.{pack_sheet}
 use Rattle.sheet.specs.Promise.{Sheet}
 use Rattle.sheet.proofs.Fits.{sheet-fits}
@@ -23,15 +29,16 @@ use Rattle.lig.specs.Exports.{number_in, ReadPacked, PairsPacked, line_in, recor
 pub number-packed : (a b c d : ℕ) → a < 65536 → number_in (pack a b c d) ≡ a
 number-packed a b c d h = omega arith
 
-module _ (card line old_chart old_plan new_chart new_plan : List ℕ) (a : Answer)
+module _ (card line old_chart old_plan new_chart new_plan : List ℕ) (a : Result Reading Refusal)
     (reads : Reads card line old_chart old_plan new_chart new_plan a) where
   pub answer-fits : ReadFits (answer_from a)
   answer-fits = subst ReadFits (sym reads.answer) (read_fits card line (length old_chart) (length old_plan))
 
-  pub read-packed : ReadPacked card line old_chart old_plan new_chart new_plan (pack a.number a.words a.items a.steps)
+  pub read-packed : ReadPacked card line old_chart old_plan new_chart new_plan (read_packed (answer_from a))
   read-packed =
-      let e : number_in (pack a.number a.words a.items a.steps) ≡ a.number
-      = number-packed a.number a.words a.items a.steps (omega (arith, answer-fits.number)) in
+      let r = answer_from a in
+      let e : number_in (pack r.number r.words r.items r.steps) ≡ r.number
+      = number-packed r.number r.words r.items r.steps (omega (arith, answer-fits.number)) in
       record {
         answer = ap read_packed reads.answer;
         chart = subst (λ (x : ℕ). ChartAfter card line (chart_state x) old_chart new_chart) (sym e) reads.chart;
@@ -41,22 +48,37 @@ module _ (card line old_chart old_plan new_chart new_plan : List ℕ) (a : Answe
         whole = λ i m d. e ∙ reads.whole i m d;
       }
 
-module _ (card line plan before after : List ℕ) (a : Paired) (paired : Pairs card line plan before after a) where
-  pub pairs-fit-code : (a.number ≤ most_number) × (a.count ≤ 47)
+module _ (card line plan before after : List ℕ) (a : Result ℕ Refusal) (paired : Pairs card line plan before after a) where
+  pub pairs-fit-code : (answers.number_in a ≤ most_number) × (count_in a ≤ 47)
   pairs-fit-code =
       let h = pairs-fit card line plan (length before) in
       (subst (λ (x : ℕ). x ≤ most_number) (sym paired.number) h.number, subst (λ (x : ℕ). x ≤ 47) (sym paired.count) h.count)
 
-  pub pairs-packed : PairsPacked card line plan before after (pack a.number a.count 0 0)
+  pub pairs-packed : PairsPacked card line plan before after (pack (answers.number_in a) (count_in a) 0 0)
   pairs-packed = record { answer = rw (paired.number, paired.count) refl; room = paired.room }
 
-module _ (card : List ℕ) (word : ℕ) where
-  pub name-refused : (number : ℕ) → number ≡ name_number card word → (number ≡ 0 → ⊥) → number ≡ name_packed (name_answer card word)
-  name-refused number e n = rw (ne_eqb (name_number card word) 0 λ z. n (e ∙ z)) (omega (arith, e))
+-- Of a refusal only the number is left.
+pub number-alone : (number : ℕ) → number ≡ pack number 0 0 0
+number-alone number = omega arith
 
-  pub name-known : name_number card word ≡ 0
-      → name_packed (name_answer card word) ≡ pack 0 (entry_at card word + 1) (spelling_length card word) 0
-  name-known z = rw (eq-eqb (name_number card word) 0 z) refl
+-- The place and the size of a name, which lies within a word's entry.
+abbrev found : ℕ → ℕ → NameAnswer
+found offset size = record { number = 0; offset = offset; size = size }
+
+pub name-fits : (card : List ℕ) (word offset size : ℕ) → found offset size ≡ name_answer card word → (offset < 65536) × (size < 65536)
+name-fits card word offset size = by-test (eqb (name_number card word) 0) refl
+  where
+    by-test : (b : Bool) → eqb (name_number card word) 0 ≡ b
+        → found offset size
+        ≡ cond b (found (entry_at card word + 1) (spelling_length card word)) (record { number = name_number card word; offset = 0; size = 0 })
+        → (offset < 65536) × (size < 65536)
+    by-test true t e =
+        let known = known-word card word (eqb-true (name_number card word) 0 t) in
+        let at = ap (λ (a : NameAnswer). a.offset) e in
+        let long = ap (λ (a : NameAnswer). a.size) e in
+        (omega (arith, at, known.known, known.few, header-most card), omega (arith, long, known.short))
+    by-test false t e =
+        (omega (arith, ap (λ (a : NameAnswer). a.offset) e), omega (arith, ap (λ (a : NameAnswer). a.size) e))
 
 -- A sheet's parts, read back.
 module _ (number line records : ℕ) (h : number < 65536) (k : line < 256) (m : records < 1048576) where

@@ -7,12 +7,9 @@ use mathlib.Core.List.{List}
 use lib.ListN.{length, drop, length-drop}
 use lib.Seq.{length-take-le, get_or-take, get_or-drop}
 use Rattle.layout.specs.Bytes.{byte_at}
-use Rattle.layout.specs.Card.{word_count, max_words, most_letters, entry_at, spelling_length, spelling, within, entry_fits, card_number}
+use Rattle.layout.specs.Card.{word_count, most_letters, entry_at, spelling_length, spelling, within, entry_fits, card_number}
 use Rattle.layout.proofs.TestLaws.{both, limits, below_all}
-use Rattle.layout.proofs.Accepting.{accepted-card, accepted-counts, entry-inside}
-
-pub words-few : (card : List ℕ) → card_number card ≡ 0 → word_count card ≤ max_words
-words-few card ok = (accepted-counts card ok).few_words
+use Rattle.layout.proofs.Accepting.{accepted-card, entry-inside}
 
 -- The letters of an entry.
 pub spelling-byte : (card : List ℕ) (k i : ℕ) → i < spelling_length card k
@@ -37,6 +34,3 @@ module _ (card : List ℕ) (v : ℕ) (ok : card_number card ≡ 0) (h : v < word
   spelling-size =
       length-take-le (spelling_length card v) (drop (entry_at card v + 1) card)
       (omega (arith, length-drop (entry_at card v + 1) card, entry-inside card v ok h, most-letters))
-
-  pub spelling-fits : length (spelling card v) ≤ most_letters
-  spelling-fits = omega (arith, spelling-size, most-letters)

@@ -1,16 +1,12 @@
--- Letters: bytes above the space, so each fits a line; and where a run of them ends.
+-- Letters: bytes above the space, so each fits a line.
 use Prim.Native.Nat.{ℕ, ◌≤◌}
 use native.Mathlib.Omega.{arith}
 use mathlib.Core.Path.{◌≡◌, refl}
 use mathlib.Core.Bool.{Bool, true, false, ◌&&◌, ◌||◌, false≢true}
-use mathlib.Core.List.{List}
 use lib.Dec.{leb}
-use lib.ListN.{length}
 use borrow.Author.Tests.{leb-true, ne_eqb}
-use Rattle.layout.specs.Bytes.{byte_at, is_letter}
+use Rattle.layout.specs.Bytes.{is_letter}
 use Rattle.layout.specs.Line.{space, is_line_byte}
-use Rattle.octets.specs.Letters.{Letters}
-use Rattle.line.specs.Words.{PastLetters}
 use Rattle.layout.proofs.TestLaws.{both}
 
 -- The limits of letters and digits together.
@@ -36,9 +32,3 @@ letter-fits b e = rw e
 
 pub neither-fits : (b : ℕ) → is_letter b ≡ false → (b ≡ space → ⊥) → is_line_byte b ≡ false
 neither-fits b e n = rw (e, ne_eqb b space n)
-
-pub past-here : {line : List ℕ} {at i : ℕ} → Letters line at i → is_letter (byte_at line i) ≡ false → PastLetters line at i
-past-here s e = record { taken = s; stops = λ h. e }
-
-pub past-line : {line : List ℕ} {at i : ℕ} → Letters line at i → length line ≤ i → PastLetters line at i
-past-line s h = record { taken = s; stops = λ g. absurd (omega arith) }

@@ -1,5 +1,5 @@
--- Looking a word up entry by entry: one entry is compared with the word byte by byte, if it is as long, so a mismatch passes the entry
--- over, and a comparison that comes to the end has found it. An equal entry is in the word's slot, so none stands outside the range
+-- Looking a word up entry by entry: one entry is compared with the word byte by byte, if it is as long, and another length or a mismatch
+-- passes the entry over. An equal entry is in the word's slot, so none stands outside the range
 -- of that slot; those that were found are the equal entries below the place from which the search goes on.
 use Prim.Native.Nat.{ℕ, ◌+◌, ◌≤◌, ◌<◌}
 use native.Mathlib.Numerals.{add-one}
@@ -8,19 +8,19 @@ use native.Mathlib.Decide.{ℕ_discrete}
 use mathlib.Core.Path.{◌≡◌, refl, sym, ◌∙◌, ap}
 use mathlib.Core.Bool.{Bool, true, false}
 use mathlib.Core.List.{List}
-use lib.ListN.{length, get_or, drop, drop_of_length-le}
+use lib.ListN.{length, drop}
 use lib.Seq.{drop-cons}
 use borrow.Author.Tests.{eq-eqb, ne_eqb}
 use Rattle.layout.specs.Bytes.{byte_at, same_bytes}
-use Rattle.layout.specs.Card.{word_count, max_words, entry_at, entry_length, spelling_length, spelling, card_number}
+use Rattle.layout.specs.Card.{word_count, entry_at, spelling_length, spelling, card_number}
 use Rattle.layout.specs.Line.{equals_entry}
 use Rattle.layout.proofs.TestLaws.{same_length, same-equal, unless-true}
-use Rattle.layout.proofs.Accepting.{entry-inside}
 use Rattle.bits.specs.Bits.{with_number, set_below}
 use Rattle.bits.proofs.BitSets.{set-passed}
-use Rattle.line.specs.Slots.{word_slot, entry_slot, Ranged}
+use Rattle.line.specs.declared.slots.Slot.{Slot}
+use Rattle.line.specs.Slots.{word_slot, entry_slot, slot_at, Ranged}
 use Rattle.line.specs.Lookup.{word_set, NextEqual}
-use Rattle.line.proofs.CardLaws.{words-few, spelling-byte, spelling-size, spelling-fits}
+use Rattle.line.proofs.CardLaws.{spelling-byte, spelling-size}
 
 -- Two lists of bytes, compared from a place on.
 module _ (a b : List ℕ) (i : ℕ) where
@@ -33,20 +33,11 @@ module _ (a b : List ℕ) (i : ℕ) where
   byte-differs : i < length a → i < length b → (byte_at a i ≡ byte_at b i → ⊥) → same_from ≡ false
   byte-differs g h n = rw (drop-cons a i 0 g, drop-cons b i 0 h, ne_eqb (byte_at a i) (byte_at b i) n)
 
-  all-agree : length a ≤ i → length b ≤ i → same_from ≡ true
-  all-agree g h = rw (drop_of_length-le a {i = i} g, drop_of_length-le b {i = i} h)
-
 -- A search from one entry on up to another: no entry from `from` up to `next` equals the word.
 pub record Looking (card word : List ℕ) (from to next : ℕ) : Type 0 where
   pub after : from ≤ next
   pub within : next ≤ to
   pub passed : (k : ℕ) → from ≤ k → k < next → equals_entry card word k ≡ false
-
-pub looking-first : (card word : List ℕ) (from to : ℕ) → from ≤ to → Looking card word from to from
-looking-first card word from to h = record { after = omega arith; within = h; passed = λ k l g. absurd (omega arith) }
-
-pub next-nowhere : {card word : List ℕ} {from to next : ℕ} → Looking card word from to next → next ≡ to → NextEqual card word from to next
-next-nowhere l e = record { after = l.after; within = l.within; passed = l.passed; equal = λ g. absurd (omega arith) }
 
 -- Entry k is as long as the word, and they agree up to i.
 pub record Comparing (card word : List ℕ) (k i : ℕ) : Type 0 where
@@ -61,12 +52,6 @@ pub record Turn (card word : List ℕ) (from to k : ℕ) : Type 0 where
   pub looking : Looking card word from to k
 
 module _ {card word : List ℕ} {from to k : ℕ} (t : Turn card word from to k) where
-  pub turn-few : k < max_words
-  turn-few = omega (arith, words-few card t.accepted, t.counted)
-
-  pub turn_inside : entry_at card k + entry_length ≤ length card
-  turn_inside = entry-inside card k t.accepted t.counted
-
   turn-missed : equals_entry card word k ≡ false → Looking card word from to (k + 1)
   turn-missed e =
       record {
@@ -76,15 +61,6 @@ module _ {card word : List ℕ} {from to k : ℕ} (t : Turn card word from to k)
           | yes s ↦ ap (equals_entry card word) s ∙ e
           | no d ↦ t.looking.passed m l (omega arith)
         ];
-      }
-
-  next_here : equals_entry card word k ≡ true → NextEqual card word from to k
-  next_here e =
-      record {
-        after = t.looking.after;
-        within = t.looking.within;
-        passed = t.looking.passed;
-        equal = λ g. e;
       }
 
   -- The entry's length byte as n.
@@ -98,30 +74,24 @@ module _ {card word : List ℕ} {from to k : ℕ} (t : Turn card word from to k)
     pub comparing-first : n ≡ length word → Comparing card word k 0
     comparing-first e = record { size = sym e ∙ size; left = refl }
 
-  module _ {i : ℕ} (c : Comparing card word k i) where
-    pub all-bytes : length word ≤ i → NextEqual card word from to k
-    all-bytes g = next_here (c.left ∙ all-agree word (spelling card k) i g (omega (arith, c.size)))
+  -- Byte i, up to which they agree.
+  module _ {i : ℕ} (c : Comparing card word k i) (g : i < length word) where
+    in-spelling : i < length (spelling card k)
+    in-spelling = omega (arith, c.size)
 
-    module _ (g : i < length word) where
-      pub byte_inside : entry_at card k + 1 + i < length card
-      byte_inside = omega (arith, turn_inside, c.size, spelling-fits card k t.accepted t.counted)
+    byte-is : byte_at (spelling card k) i ≡ byte_at card (entry_at card k + 1 + i)
+    byte-is = spelling-byte card k i (omega (arith, in-spelling, spelling-size card k t.accepted t.counted))
 
-      in-spelling : i < length (spelling card k)
-      in-spelling = omega (arith, c.size)
+    pub comparing-on : byte_at card (entry_at card k + 1 + i) ≡ byte_at word i → Comparing card word k (i + 1)
+    comparing-on e =
+        record {
+          size = c.size;
+          left = c.left ∙ byte-agrees word (spelling card k) i g in-spelling (sym e ∙ sym byte-is);
+        }
 
-      byte-is : byte_at (spelling card k) i ≡ byte_at card (entry_at card k + 1 + i)
-      byte-is = spelling-byte card k i (omega (arith, in-spelling, spelling-size card k t.accepted t.counted))
-
-      pub comparing-on : byte_at card (entry_at card k + 1 + i) ≡ byte_at word i → Comparing card word k (i + 1)
-      comparing-on e =
-          record {
-            size = c.size;
-            left = c.left ∙ byte-agrees word (spelling card k) i g in-spelling (sym e ∙ sym byte-is);
-          }
-
-      pub other_byte : (byte_at card (entry_at card k + 1 + i) ≡ byte_at word i → ⊥) → Looking card word from to (k + 1)
-      other_byte n =
-          turn-missed (c.left ∙ byte-differs word (spelling card k) i g in-spelling (λ e. n (sym byte-is ∙ sym e)))
+    pub other_byte : (byte_at card (entry_at card k + 1 + i) ≡ byte_at word i → ⊥) → Looking card word from to (k + 1)
+    other_byte n =
+        turn-missed (c.left ∙ byte-differs word (spelling card k) i g in-spelling (λ e. n (sym byte-is ∙ sym e)))
 
 -- No entry before `from`, and none from `to` on, equals the word.
 pub record Inside (card word : List ℕ) (from to : ℕ) : Type 0 where
@@ -131,20 +101,21 @@ pub record Inside (card word : List ℕ) (from to : ℕ) : Type 0 where
   pub none_after : (v : ℕ) → to ≤ v → v < word_count card → equals_entry card word v ≡ false
 
 -- So it is with the range of the word's slot: every equal entry is in that slot.
-module _ {card lows highs : List ℕ} (word : List ℕ) (r : Ranged card (word_count card) lows highs) where
+module _ {card : List ℕ} {slots : List Slot} (word : List ℕ) (r : Ranged card (word_count card) slots) where
   slot_same : (v : ℕ) → equals_entry card word v ≡ true → entry_slot card v ≡ word_slot word
   slot_same v e = ap word_slot (sym (same-equal word (spelling card v) e))
 
-  pub slot-inside : {h from to : ℕ} → h ≡ word_slot word → from ≡ get_or lows h 0 → to ≡ get_or highs h 0 → Inside card word from to
+  pub slot-inside : {h from to : ℕ} → h ≡ word_slot word → from ≡ (slot_at slots h).from → to ≡ (slot_at slots h).to
+      → Inside card word from to
   slot-inside {h} {from} {to} i l g =
       record {
         order = omega (arith, l, g, r.order h);
         within = omega (arith, g, r.within h);
         none_before = λ v b. unless-true (equals_entry card word v) λ e.
             let few : v < word_count card = omega (arith, b, l, r.order h, r.within h) in
-            absurd (omega (arith, b, l, r.after v few, ap (λ (k : ℕ). get_or lows k 0) (slot_same v e ∙ sym i)));
+            absurd (omega (arith, b, l, r.after v few, ap (λ (k : ℕ). (slot_at slots k).from) (slot_same v e ∙ sym i)));
         none_after = λ v b few. unless-true (equals_entry card word v) λ e.
-            absurd (omega (arith, b, g, r.before v few, ap (λ (k : ℕ). get_or highs k 0) (slot_same v e ∙ sym i)));
+            absurd (omega (arith, b, g, r.before v few, ap (λ (k : ℕ). (slot_at slots k).to) (slot_same v e ∙ sym i)));
       }
 
 -- The equal entries below `at` are in the set.
@@ -159,12 +130,9 @@ gathered_none {card} {word} {from} r =
       gathered = sym (set-passed from 0 (equals_entry card word) (omega arith) λ k l g. r.none_before k g);
     }
 
-pub gathered-all : {card word : List ℕ} {from to at set : ℕ} → Inside card word from to → Gathered card word to at set → to ≤ at
-    → set ≡ word_set card word
-gathered-all {card} {word} {from} {to} {at} r s h =
-    let e : at ≡ to = omega (arith, s.within) in
-    s.gathered ∙ ap (λ (n : ℕ). set_below n (equals_entry card word)) e
-    ∙ sym (set-passed (word_count card) to (equals_entry card word) r.within r.none_after)
+pub gathered-all : {card word : List ℕ} {from to set : ℕ} → Inside card word from to → Gathered card word to to set → set ≡ word_set card word
+gathered-all {card} {word} {from} {to} r s =
+    s.gathered ∙ sym (set-passed (word_count card) to (equals_entry card word) r.within r.none_after)
 
 module _ {card word : List ℕ} {to at set next : ℕ} (s : Gathered card word to at set) (n : NextEqual card word at to next) where
   pub gathered-on : Gathered card word to next set
@@ -174,9 +142,9 @@ module _ {card word : List ℕ} {to at set next : ℕ} (s : Gathered card word t
         gathered = s.gathered ∙ sym (set-passed next at (equals_entry card word) n.after n.passed);
       }
 
-  pub gathered-more : {m : ℕ} → m ≡ next + 1 → next < to → Gathered card word to m (with_number set next)
-  gathered-more e h =
-      rw e (record {
+  pub gathered-more : next < to → Gathered card word to (next + 1) (with_number set next)
+  gathered-more h =
+      record {
         within = omega arith;
         gathered = rw (add-one next, n.equal h) (ap (λ (so : ℕ). with_number so next) gathered-on.gathered);
-      })
+      }

@@ -2,43 +2,31 @@
 -- end the verdict on the words is the answer.
 use Prim.Native.Nat.{ℕ, ◌+◌, ◌≤◌}
 use native.Mathlib.Omega.{arith}
-use mathlib.Core.Path.{◌≡◌, refl, sym, ◌∙◌, ap, ap₂}
-use mathlib.Core.Bool.{Bool, true, false, cond}
+use mathlib.Core.Path.{◌≡◌, refl, sym, ◌∙◌, ap}
+use mathlib.Core.Bool.{Bool, true, false}
 use mathlib.Core.List.{List, [], ◌∷◌}
-use lib.Dec.{eqb, leb}
+use lib.Dec.{leb}
 use lib.ListN.{length, drop}
-use borrow.Author.Tests.{eqb-true, leb-true}
+use borrow.Author.Tests.{leb-true}
+use Rattle.std.proofs.Common.{Result, Ok, Err}
 use Rattle.layout.specs.Bytes.{all_bytes}
 use Rattle.layout.specs.Refusals.{unless, first_refusal}
 use Rattle.layout.specs.Card.{card_number}
 use Rattle.layout.specs.Line.{is_line_byte, most_words, words_of, all_known}
 use Rattle.layout.specs.Answers.{input_number, words_in}
 use Rattle.layout.proofs.Accepting.{AcceptedLine, accepted-line}
-use Rattle.line.specs.declared.Accepted.{Accepted}
+use Rattle.places.specs.declared.Words.{Words}
+use Rattle.refusals.specs.declared.Refusal.{Refusal}
 use Rattle.line.specs.Words.{WordStarts}
-use Rattle.line.specs.Accepted.{no_places, places_of, words_number, Verdict, Accepts}
+use Rattle.line.specs.Accepted.{places_of, words_number, Verdict, Accepts}
 use Rattle.line.proofs.RefusalLaws.{words-decide}
-use Rattle.line.proofs.WordLaws.{WordEnds, no_bytes, Counted, counted_none, counted-more, counted-all}
-use Rattle.line.proofs.NumberLaws.{sets, Numbering, numbering-on, known-all, numbered-all}
+use Rattle.line.proofs.WordLaws.{WordEnds, no_bytes, Counted, counted-more, counted-all}
+use Rattle.line.proofs.NumberLaws.{Numbering, numbering-on, known-all, numbered-all}
 
 pub record Passing (card line : List ℕ) (at n : ℕ) (known : Bool) (stored : List ℕ) : Type 0 where
   pub counted : Counted line at n
   pub fits : all_bytes is_line_byte line ≡ all_bytes is_line_byte (drop at line)
   pub numbering : n ≤ 24 → Numbering card line at n known stored
-
-pub passing-none : {card line : List ℕ} {at : ℕ} → WordStarts line 0 at → Passing card line at 0 true no_places
-passing-none {card} s =
-    record {
-      counted = counted_none s;
-      fits = s.fits;
-      numbering =
-          λ h. record {
-            known_is = ap (all_known card) s.words;
-            numbered = ap (sets card) s.words;
-            room = refl;
-            zeros = refl;
-          };
-    }
 
 -- One word more, whatever was noted of it.
 pub passing-more : {card line stored stored' : List ℕ} {at stop next n : ℕ} {known known' : Bool} → Passing card line at n known stored
@@ -62,13 +50,6 @@ known-few n {a} {b} e = go (leb 1 n) (leb n most_words) refl
     go true false f = refl
     go true true f = ap (λ (t : Bool). first_refusal (unless t 24 ∷ [])) (e (leb-true n most_words f))
 
-where-accepted : (number : ℕ) (c : List ℕ) {a b : List ℕ} → (number ≡ 0 → a ≡ b) → cond (eqb number 0) a c ≡ cond (eqb number 0) b c
-where-accepted number c {a} {b} e = go (eqb number 0) refl
-  where
-    go : (t : Bool) → eqb number 0 ≡ t → cond t a c ≡ cond t b c
-    go true f = e (eqb-true number 0 f)
-    go false f = refl
-
 -- The end of the line.
 module _ {card line stored : List ℕ} {at n : ℕ} {known : Bool} (ok : card_number card ≡ 0)
     (s : Passing card line at n known stored) (h : length line ≤ at) where
@@ -86,12 +67,11 @@ module _ {card line stored : List ℕ} {at n : ℕ} {known : Bool} (ok : card_nu
       let a : AcceptedLine card line = accepted-line card line z in
       numbered-all (s.numbering (omega (arith, all-counted, a.most_words))) h all-counted
 
-  pub passed : {r : Accepted} → Verdict n known stored r → Accepts card line r
-  passed v =
+  pub passed : (r : Result Words Refusal) → Verdict n known stored r → Accepts card line r
+  passed (Err refusal) v = record { number = v.number ∙ number_is; words = tt }
+  passed (Ok words) v =
+      let number = v.number ∙ number_is in
       record {
-        number = v.number ∙ number_is;
-        count = v.counts ∙ ap₂ (λ (number count : ℕ). cond (eqb number 0) count 0) number_is all-counted;
-        places =
-            v.placed ∙ ap (λ (number : ℕ). cond (eqb number 0) stored no_places) number_is
-            ∙ where-accepted (input_number card line) no_places stored_is;
+        number = number;
+        words = record { count = v.words.0 ∙ all-counted; places = v.words.1 ∙ stored_is (sym number) };
       }

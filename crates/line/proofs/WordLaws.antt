@@ -1,15 +1,18 @@
 -- The words of a line, read from a place on: what stands from the place to the line's end gives the words that are left, and tells
 -- whether the bytes that are left fit. A space in front changes neither; a run of letters, up to a space or the end, is the first word.
-use Prim.Native.Nat.{ℕ, suc, ◌+◌, ◌-◌, ◌≤◌, ◌<◌}
+use Prim.Native.Nat.{ℕ, suc, ◌+◌, ◌≤◌, ◌<◌}
 use native.Mathlib.Decide.{ℕ_discrete}
-use native.Mathlib.Numerals.{add-one}
 use native.Mathlib.Omega.{arith}
 use mathlib.Core.Path.{◌≡◌, refl, sym, ◌∙◌, ap}
-use mathlib.Core.Bool.{true, false}
+use mathlib.Core.Bool.{Bool, true, false, cond}
 use mathlib.Core.List.{List, [], ◌∷◌, ◌++◌, append_assoc, append-nil}
-use lib.ListN.{length, drop, drop_of_length-le}
-use lib.Seq.{drop-cons}
-use borrow.Author.Tests.{eq-eqb, ne_eqb}
+use lib.Dec.{eqb}
+use lib.ListN.{length, take, drop, length-drop, drop_of_length-le}
+use lib.Seq.{drop-cons, drop-drop, get_or-drop}
+use borrow.Author.Tests.{eq-eqb, ne_eqb, eqb-true, eqb-false}
+use Rattle.std.specs.List.{prefix_len}
+use Rattle.std.proofs.lemmas.List.Folds.{length-prefix_len}
+use Rattle.std.proofs.lemmas.List.Sums.{prefix_len-le-length, prefix_len_stops}
 use Rattle.layout.specs.Bytes.{byte_at, is_letter, all_bytes}
 use Rattle.layout.specs.Line.{space, is_line_byte, ended, words_from, words_of}
 use Rattle.layout.specs.Answers.{words_in}
@@ -31,9 +34,6 @@ one_word : (so : List ℕ) (words : List (List ℕ)) → 0 < length so → ended
 one_word [] words h = absurd (omega arith)
 one_word (b ∷ so) words h = refl
 
-space-fits : (b : ℕ) → b ≡ space → is_line_byte b ≡ true
-space-fits b e = rw e
-
 -- Letters in front of the rest of a line.
 letters-begin : (so word rest : List ℕ) → all_bytes is_letter word ≡ true → words_from so (word ++ rest) ≡ words_from (so ++ word) rest
 letters-begin so [] rest e = rw (append-nil so)
@@ -49,34 +49,42 @@ letters-fit (b ∷ word) rest e =
     let parts = both (is_letter b) (all_bytes is_letter word) e in
     rw (letter-fits b parts.0) (letters-fit word rest parts.1)
 
--- Only spaces stand from `at` up to i.
-pub record Skipped (line : List ℕ) (at i : ℕ) : Type 0 where
-  pub after : at ≤ i
-  pub within : i ≤ length line
-  pub words : words_of (drop at line) ≡ words_of (drop i line)
-  pub fits : all_bytes is_line_byte (drop at line) ≡ all_bytes is_line_byte (drop i line)
+-- Spaces in front.
+abbrev is_space : ℕ → Bool
+is_space b = eqb b space
 
-pub skipped-none : {line : List ℕ} {at : ℕ} → at ≤ length line → Skipped line at at
-skipped-none h = record { after = omega arith; within = h; words = refl; fits = refl }
+skipped : (bytes : List ℕ) → let rest = drop (prefix_len is_space bytes) bytes in
+    (words_of bytes ≡ words_of rest) × (all_bytes is_line_byte bytes ≡ all_bytes is_line_byte rest)
+skipped [] = (refl, refl)
+skipped (b ∷ bytes) = go (is_space b) refl (prefix_len is_space bytes) (skipped bytes)
+  where
+    go : (t : Bool) → is_space b ≡ t → (n : ℕ)
+        → (words_of bytes ≡ words_of (drop n bytes)) × (all_bytes is_line_byte bytes ≡ all_bytes is_line_byte (drop n bytes))
+        → let rest = drop (cond t (1 + n) 0) (b ∷ bytes) in
+        (words_of (b ∷ bytes) ≡ words_of rest) × (all_bytes is_line_byte (b ∷ bytes) ≡ all_bytes is_line_byte rest)
+    go true e n (words, fits) =
+        let one : 1 + n ≡ suc n = omega arith in
+        let here : b ≡ space = eqb-true b space e in
+        (rw one (at-space [] b bytes here ∙ words), rw (one, here) fits)
+    go false e n h = (refl, refl)
 
-module _ {line : List ℕ} {at i : ℕ} (s : Skipped line at i) where
-  pub skipped-more : i < length line → byte_at line i ≡ space → Skipped line at (i + 1)
-  skipped-more h e =
-      record {
-        after = omega arith;
-        within = omega arith;
-        words = s.words ∙ rw (add-one, drop-cons line i 0 h) (at-space [] (byte_at line i) (drop (suc i) line) e);
-        fits = s.fits ∙ rw (add-one, drop-cons line i 0 h, space-fits (byte_at line i) e);
-      }
-
-  starts : (i < length line → byte_at line i ≡ space → ⊥) → WordStarts line at i
-  starts n = record { after = s.after; within = s.within; words = s.words; fits = s.fits; letter = n }
-
-  pub starts-at-letter : (byte_at line i ≡ space → ⊥) → WordStarts line at i
-  starts-at-letter n = starts λ h. n
-
-  pub starts-nowhere : length line ≤ i → WordStarts line at i
-  starts-nowhere h = starts λ g e. omega arith
+-- A word starts past as many spaces as the rest of the line begins with, or the line ends.
+pub starts-past : (line : List ℕ) (at : ℕ) {n : ℕ} → at ≤ length line
+    → n ≡ length (take (prefix_len is_space (drop at line)) (drop at line)) → WordStarts line at (at + n)
+starts-past line at {n} h e =
+    let rest = drop at line in
+    let run = prefix_len is_space rest in
+    let same : n ≡ run = e ∙ length-prefix_len is_space rest in
+    let left : drop run rest ≡ drop (at + n) line = rw same (drop-drop run at line) in
+    record {
+      after = omega arith;
+      within = omega (arith, same, prefix_len-le-length is_space rest, length-drop at line);
+      words = (skipped rest).0 ∙ ap words_of left;
+      fits = (skipped rest).1 ∙ ap (all_bytes is_line_byte) left;
+      letter = λ g s. eqb-false (byte_at rest run) space
+          (prefix_len_stops is_space rest 0 (omega (arith, same, g, length-drop at line)))
+          (get_or-drop at line run 0 ∙ ap (λ (k : ℕ). byte_at line (at + k)) (sym same) ∙ s);
+    }
 
 -- The bytes from `start` to `stop` are the first of the words from `start` on, and letters.
 pub record WordEnds (line : List ℕ) (start stop : ℕ) : Type 0 where
@@ -136,10 +144,6 @@ no_words line i h = rw (drop_of_length-le line {i = i} h)
 
 pub no_bytes : (line : List ℕ) (i : ℕ) → length line ≤ i → all_bytes is_line_byte (drop i line) ≡ true
 no_bytes line i h = rw (drop_of_length-le line {i = i} h)
-
-pub less-left : {line : List ℕ} {start stop next : ℕ} → WordEnds line start stop → WordStarts line stop next
-    → length line - next < length line - start
-less-left e s = omega (arith, e.after, e.within, s.after)
 
 -- Counting: n words stand before `at`, and `at` is no space.
 pub record Counted (line : List ℕ) (at n : ℕ) : Type 0 where

@@ -11,14 +11,7 @@ pub fn word_start(line: &[u8], at: usize) -> usize
     requires { at ≤ length line.now }
     ensures { WordStarts line.now at result }
 {
-    let mut i = at;
-    while i < line.len() {
-        if line[i] != SPACE {
-            return i;
-        }
-        i += 1;
-    }
-    i
+    at + line[at..].iter().take_while(|b| **b == SPACE).count()
 }
 
 // Past the letters that stand at `at`: runs of a to z, with digits between them.
@@ -27,10 +20,8 @@ pub fn word_end(line: &[u8], at: usize) -> usize
     ensures { PastLetters line.now at result }
 {
     let mut end = past_small(line, at);
-    while end < line.len() {
-        if !is_letter(line[end]) {
-            return end;
-        }
+    // A cursor: a run of letters is passed at a time.
+    while end < line.len() && is_letter(line[end]) {
         end = past_small(line, end + 1);
     }
     end

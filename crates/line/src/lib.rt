@@ -7,45 +7,32 @@ mod lookup;
 mod slots;
 mod verdict;
 
-ghost use Rattle.std.specs.Prelude.{◌≡◌};
-ghost use Rattle.layout.specs.Card.{card_number};
 ghost use Rattle.line.specs.Accepted.{Accepts};
 
-use card::{Card, card_number};
-use places::MOST_WORDS;
-use slots::SLOTS;
-
-// A refusal's number, or 0 with the line's words: how many, and at each place the set of its words, none past the last.
-#[derive(Clone, Copy)]
-pub struct Accepted {
-    pub number: u64,
-    pub count: usize,
-    pub places: [u32; MOST_WORDS],
-}
+use card::Card;
+use places::{MOST_WORDS, Words};
+use refusals::Refusal;
+use slots::{SLOTS, Slot};
 
 // A line under an accepted card, in one pass. 22 comes before the line's other refusals, so it is answered at the first byte that does
 // not fit; the others wait for the end. Past the most words only their count goes on.
-pub fn accept_line(card: &[u8], line: &[u8]) -> Accepted
-    requires { card_number card.now ≡ 0 }
-    ensures { Accepts card.now line.now result }
+pub fn accept_line(card: Card, line: &[u8]) -> Result<Words, Refusal>
+    ensures { Accepts card.entry.bytes.now line.now result }
 {
-    let view = Card::of(card);
-    let mut lows = [0u8; SLOTS];
-    let mut highs = [0u8; SLOTS];
-    slots::range_all(card, view, &mut lows, &mut highs);
+    let mut slots = [Slot { from: 0, to: 0 }; SLOTS];
+    slots::range_all(card, &mut slots);
     let mut places = [0u32; MOST_WORDS];
     let mut count = 0;
     let mut known = true;
     let mut at = cut::word_start(line, 0);
+    // A cursor: a word's end and the next one's start are found byte by byte, so no range and no iterator says its steps.
     while at < line.len() {
         let end = cut::word_end(line, at);
-        if end < line.len() {
-            if line[end] != cut::SPACE {
-                return verdict::refused(22);
-            }
+        if end < line.len() && line[end] != cut::SPACE {
+            return Err(Refusal::StrayByte);
         }
         if count < MOST_WORDS {
-            let set = lookup::look_up(card, view, &lows, &highs, &line[at..end]);
+            let set = lookup::look_up(card, &slots, &line[at..end]);
             places[count] = set;
             if set == 0 {
                 known = false;
@@ -58,12 +45,8 @@ pub fn accept_line(card: &[u8], line: &[u8]) -> Accepted
 }
 
 // The card's refusals, then the line's in their order, each over the whole line.
-pub fn accept(card: &[u8], line: &[u8]) -> Accepted
+pub fn accept(card: &[u8], line: &[u8]) -> Result<Words, Refusal>
     ensures { Accepts card.now line.now result }
 {
-    let number = card_number(card);
-    if number != 0 {
-        return verdict::refused(number);
-    }
-    accept_line(card, line)
+    accept_line(Card::check(card)?, line)
 }

@@ -1,45 +1,49 @@
 // The entries of a card by the letters at their ends, so that a word is compared with few of them.
-ghost use Rattle.std.specs.Prelude.{◌≡◌, cond, ◌<◌, eqb, replicate};
-ghost use Rattle.layout.specs.Card.{card_number, word_count};
-ghost use Rattle.card.specs.View.{ViewOf};
-ghost use Rattle.line.specs.Slots.{slot_of, Ranged};
+ghost use Rattle.std.specs.Prelude.{◌≡◌, ◌<◌, replicate};
+ghost use Rattle.layout.specs.Card.{word_count};
+ghost use Rattle.line.specs.Slots.{slot_of, no_slot, NextInSlot, Ranged};
 
 use card::Card;
-use octets::wide;
 
 // Five bits tell most words apart, numbered ones such as row1 and row2 too.
 pub const SLOTS: usize = 32;
 
+// From which entry on and up to which entry those of a slot stand, as far as they are met. Both are 0 where none has been.
+#[derive(Clone, Copy)]
+pub struct Slot {
+    pub from: u8,
+    pub to: u8,
+}
+
+impl Slot {
+    // With entry v, which comes after those that it has.
+    fn with(self, v: u8) -> Slot
+        requires { v < 255 }
+        ensures { NextInSlot self v result }
+    {
+        Slot {
+            from: if self.to == 0 { v } else { self.from },
+            to: v + 1,
+        }
+    }
+}
+
 // The slot of a word, by its first and its last letter. The first counts twice, so that words of one letter or digit are told apart.
-pub fn slot(first: u8, last: u8) -> usize
+pub fn slot_of(first: u8, last: u8) -> usize
     ensures { (result ≡ slot_of first last) × (result < 32) }
 {
-    (2 * wide(first) + wide(last)) & 31
+    (2 * usize::from(first) + usize::from(last)) & 31
 }
 
-// Where the entries of a slot begin, as far as is known: with this one, where none has been met.
-fn begins(from: u8, to: u8, v: u8) -> u8
-    ensures { result ≡ cond (eqb to 0) v from }
+// The entries of every slot. The table is lent, and its slots are empty at the start.
+pub fn range_all(card: Card, slots: &mut [Slot; SLOTS])
+    requires { slots.old ≡ replicate 32 no_slot }
+    ensures { Ranged card.entry.bytes.now (word_count card.entry.bytes.now) slots.new }
 {
-    if to == 0 {
-        return v;
-    }
-    from
-}
-
-// For each slot, from which entry on and up to which entry those in it stand. The tables are lent, and are 0 at the start.
-pub fn range_all(card: &[u8], view: Card, from: &mut [u8; SLOTS], to: &mut [u8; SLOTS])
-    requires { (card_number card.now ≡ 0) × ViewOf card.now view × (from.old ≡ replicate 32 0) × (to.old ≡ replicate 32 0) }
-    ensures { Ranged card.now (word_count card.now) from.new to.new }
-{
-    let words = view.words;
-    let mut v = 0;
-    while v < words {
-        let entry = view.entry_at(v);
-        let size = wide(card[entry]);
-        let h = slot(card[entry + 1], card[entry + size]);
-        from[h] = begins(from[h], to[h], v as u8);
-        v += 1;
-        to[h] = v as u8;
+    for v in 0..card.words() {
+        let entry = card.entry_at(v);
+        let size = usize::from(card.bytes[entry]);
+        let h = slot_of(card.bytes[entry + 1], card.bytes[entry + size]);
+        slots[h] = slots[h].with(v as u8);
     }
 }

@@ -1,35 +1,20 @@
-// The verdict on a line, by what was counted and looked up.
-ghost use Rattle.line.specs.Accepted.{Refused, Verdict};
+// The verdict on a line whose bytes all fit, by what was counted and looked up at its end.
+ghost use Rattle.line.specs.Accepted.{Verdict};
 
-use crate::Accepted;
-use places::MOST_WORDS;
+use places::{MOST_WORDS, Words};
+use refusals::Refusal;
 
-pub fn refused(number: u64) -> Accepted
-    ensures { Refused number result }
-{
-    Accepted {
-        number,
-        count: 0,
-        places: [0u32; MOST_WORDS],
-    }
-}
-
-// What the words say at the end of a line whose bytes all fit.
-pub fn verdict(count: usize, known: bool, places: [u32; MOST_WORDS]) -> Accepted
+pub fn verdict(count: usize, known: bool, places: [u32; MOST_WORDS]) -> Result<Words, Refusal>
     ensures { Verdict count known places result }
 {
     if count == 0 {
-        return refused(21);
+        return Err(Refusal::NoWords);
     }
     if MOST_WORDS < count {
-        return refused(23);
+        return Err(Refusal::ManyWords);
     }
     if !known {
-        return refused(24);
+        return Err(Refusal::UnknownWord);
     }
-    Accepted {
-        number: 0,
-        count,
-        places,
-    }
+    Ok(Words { count, places })
 }

@@ -5,9 +5,9 @@
 
 mod sets;
 
-use line::{Accepted, accept};
-use places::MOST_WORDS;
-use split::line_end;
+use line::accept;
+use places::{MOST_WORDS, Words};
+use refusals::{Refusal, number};
 use std::io;
 
 // Header; words; productions that are a word, that give and that take.
@@ -21,39 +21,29 @@ const TOMATO: [u8; 138] = *b"LIG1\x06\x05\x02\x0b\x0c\0\x48\0\
 const ALIKE: [u8; 54] = *b"LIG1\x01\x03\0\x01\x0c\0\x30\0\
     \x01a\0\0\0\0\0\0\0\0\0\0\x02ab\0\0\0\0\0\0\0\0\0\x0babcdefghij0\0\0\0\0\0\0";
 
-fn print_next(rt: &impl Print, n: u64) -> io::Result<()> {
-    print!(rt; " {n}")
-}
-
-fn end_line(rt: &impl Print) -> io::Result<()> {
-    println!(rt;)
-}
-
-fn print(rt: &impl Print, r: Accepted) -> io::Result<()> {
-    let number = r.number;
-    print!(rt; "{number}")?;
-    print_next(rt, r.count as u64)?;
-    for place in &r.places {
-        print_next(rt, *place as u64)?;
+// The number, and the words, of which a refusal has none.
+fn print(rt: &impl Print, r: Result<Words, Refusal>) -> io::Result<()> {
+    let number = number(&r);
+    let count = r.map_or(0, |words| words.count);
+    let places = r.map_or([0; MOST_WORDS], |words| words.places);
+    print!(rt; "{number} {count}")?;
+    for place in places {
+        print!(rt; " {place}")?;
     }
-    end_line(rt)
+    println!(rt;)
 }
 
 // The lines of a text, each ended by hex 0A, over a card.
 fn show_over(rt: &impl Print, card: &[u8], text: &[u8]) -> io::Result<()> {
-    let mut at = 0;
-    while at < text.len() {
-        let end = line_end(text, at);
-        print(rt, accept(card, &text[at..end]))?;
-        at = end + 1;
+    for line in split::lines(text) {
+        print(rt, accept(card, line))?;
     }
     Ok(())
 }
 
 // Over the tomato card.
 fn show(rt: &impl Print, text: &[u8]) -> io::Result<()> {
-    let card = TOMATO;
-    show_over(rt, &card, text)
+    show_over(rt, &TOMATO, text)
 }
 
 // No word, one and more, up to the limit; spaces at the ends, doubled and alone.
@@ -76,11 +66,10 @@ fn counts(rt: &impl Print) -> io::Result<()> {
 
 // Many spaces, and then one word.
 fn spaces(rt: &impl Print) -> io::Result<()> {
-    let card = TOMATO;
     let mut line = [0x20u8; 4096];
-    print(rt, accept(&card, &line))?;
+    print(rt, accept(&TOMATO, &line))?;
     line[4095] = b'x';
-    print(rt, accept(&card, &line))
+    print(rt, accept(&TOMATO, &line))
 }
 
 // Bytes at the edges of what a line may hold.
@@ -117,10 +106,9 @@ fn words(rt: &impl Print) -> io::Result<()> {
 }
 
 fn alike(rt: &impl Print) -> io::Result<()> {
-    let card = ALIKE;
     show_over(
         rt,
-        &card,
+        &ALIKE,
         b"abcdefghij0 ab a ab\n\
         abc\n\
         abcdefghij\n\
@@ -131,12 +119,11 @@ fn alike(rt: &impl Print) -> io::Result<()> {
 
 // The number of each line of one byte, in one row.
 fn every_byte(rt: &impl Print) -> io::Result<()> {
-    let card = TOMATO;
-    for value in 0..256usize {
-        let line = [value as u8];
-        print_next(rt, accept(&card, &line).number)?;
+    for value in 0..=255u8 {
+        let number = number(&accept(&TOMATO, &[value]));
+        print!(rt; " {number}")?;
     }
-    end_line(rt)
+    println!(rt;)
 }
 
 // Which of two refusals comes first.

@@ -9,10 +9,9 @@ const STARTS: [u8; 126] = *b"LIG1\x01\x09\0\x01\x0c\0\x78\0\
     \0\0\0\0\0\0";
 
 fn starts(rt: &impl Print) -> io::Result<()> {
-    let card = STARTS;
     show_over(
         rt,
-        &card,
+        &STARTS,
         b"mild mil milder mild2\n\
         abcdefghij1 abcdefghij0 mild\n\
         mi\n\
@@ -23,36 +22,20 @@ fn starts(rt: &impl Print) -> io::Result<()> {
     )
 }
 
-// Byte i of a card with 32 words, each of one given letter, and one production.
-fn letters_byte(spelled: &[u8; 32], i: usize) -> u8 {
-    let header = b"LIG1\x01\x20\0\x01\x0c\0\x8c\x01";
-    if i < 12 {
-        return header[i];
-    }
-    if 396 <= i {
-        return 0;
-    }
-    if i % 12 == 0 {
-        return 1;
-    }
-    if i % 12 == 1 {
-        return spelled[(i - 12) / 12];
-    }
-    0
-}
-
+// A card with 32 words, each of one given letter, and one production.
 fn letters(spelled: &[u8; 32]) -> [u8; 402] {
     let mut card = [0u8; 402];
-    for i in 0..402 {
-        card[i] = letters_byte(spelled, i);
+    card[..12].copy_from_slice(b"LIG1\x01\x20\0\x01\x0c\0\x8c\x01");
+    for (entry, letter) in card[12..396].chunks_exact_mut(12).zip(spelled) {
+        entry[0] = 1;
+        entry[1] = *letter;
     }
     card
 }
 
 // Lines over such a card.
 fn over(rt: &impl Print, spelled: &[u8; 32], text: &[u8]) -> io::Result<()> {
-    let card = letters(spelled);
-    show_over(rt, &card, text)
+    show_over(rt, &letters(spelled), text)
 }
 
 // Sets of 32, 31, 16 and 1.

@@ -5,7 +5,7 @@ ghost use Rattle.lines.specs.Answer.{plan_text, Answers, text_room, AnswersAll};
 
 use crate::input::MOST_INPUT;
 use lines_text::text;
-use split::line_end;
+use refusals::Refusal;
 
 // Room for 4,000 items.
 const CHART_ROOM: usize = 64000;
@@ -24,33 +24,34 @@ const TEXT_RATE: usize = 32;
 // Room for the text of every input that is taken in.
 pub const TEXT_ROOM: usize = TEXT_RATE * (MOST_INPUT + 1) + MOST_TEXT;
 
-// The steps of a plan, which is all of the bytes, and its pairs: at most 188 × 21 and 94 × 24 bytes of text.
+// The steps of a plan, which is all of the bytes, and its pairs: at most 188 × 21 and 94 × 24 bytes of text. Pairs takes every plan that
+// was read, in this room; where it would not, there are no pairs to print.
 fn put_plan(card: &[u8], line: &[u8], plan: &[u8], out: &mut [u8], at: usize) -> usize
     requires { (at + 6204 ≤ length out.old) × (length plan.now ≤ 188) }
     ensures { Appends out.old at (plan_text card.now line.now plan.now) out.new result }
 {
     let after = text::put_steps(out, at, plan);
     let mut pairs = [0u8; PAIR_ROOM];
-    let paired = check_pairs::pairs(card, line, plan, &mut pairs);
-    let size = 2 * paired.count;
-    text::put_pairs(out, after, &pairs[..size])
+    let count = check_pairs::pairs(card, line, plan, &mut pairs).unwrap_or(0);
+    text::put_pairs(out, after, &pairs[..2 * count])
 }
 
-// The answer for one line.
+// The answer for one line. Where it has no reading, that is refused too.
 fn put_answer(card: &[u8], line: &[u8], out: &mut [u8], at: usize) -> usize
     requires { at + 8192 ≤ length out.old }
     ensures { Answers card.now line.now out.old at out.new result }
 {
     let mut chart = [0u8; CHART_ROOM];
     let mut plan = [0u8; PLAN_ROOM];
-    let answer = reader::read::read(card, line, &mut chart, &mut plan);
-    let number = answer.number;
-    if number != 0 {
-        return text::put_refused(out, at, number);
-    }
-    let after = text::put_read(out, at, answer.words as u64, answer.items as u64);
-    let size = 4 * answer.steps;
-    put_plan(card, line, &plan[..size], out, after)
+    let reading = match reader::read::read(card, line, &mut chart, &mut plan) {
+        Ok(reading) => reading,
+        Err(refusal) => return text::put_refused(out, at, u64::from(refusal)),
+    };
+    let Some(steps) = reading.steps else {
+        return text::put_refused(out, at, u64::from(Refusal::NoReading));
+    };
+    let after = text::put_read(out, at, reading.words as u64, reading.items as u64);
+    put_plan(card, line, &plan[..4 * steps], out, after)
 }
 
 // The answers for every line, one after the other: how many bytes of the buffer they take.
@@ -59,11 +60,8 @@ pub fn put_answers(card: &[u8], lines: &[u8], out: &mut [u8]) -> usize
     ensures { AnswersAll card.now lines.now out.new result }
 {
     let mut size = 0;
-    let mut next = 0;
-    while next < lines.len() {
-        let end = line_end(lines, next);
-        size = put_answer(card, &lines[next..end], out, size);
-        next = end + 1;
+    for line in split::lines(lines) {
+        size = put_answer(card, line, out, size);
     }
     size
 }

@@ -12,7 +12,7 @@ pub const MOST_CARD: usize = 4096;
 pub const MOST_INPUT: usize = 60000;
 
 // Reads until the buffer is full, the input ends or a read fails: how many bytes stand at the start of the buffer. They are the next ones of
-// the reader, in order.
+// the reader, in order. (`read_exact` fails on an input shorter than the buffer, and does not say how much it read.)
 pub fn read_full<R: Read>(from: &mut R, buf: &mut [u8]) -> usize
     ensures counts { IsPrefixLen result buf.new }
     ensures bytes { Consumes (R.remaining from.old) (R.remaining from.new) (take result buf.new) }
@@ -20,9 +20,8 @@ pub fn read_full<R: Read>(from: &mut R, buf: &mut [u8]) -> usize
     let mut done = 0;
     while done < buf.len() {
         match from.read(&mut buf[done..]) {
-            Ok(0) => break,
+            Ok(0) | Err(_) => break,
             Ok(n) => done += n,
-            Err(_) => break,
         }
     }
     done

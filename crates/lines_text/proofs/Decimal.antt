@@ -1,15 +1,16 @@
--- The digits of a number: 20 at most, and what is appended digit by digit.
+-- The digits of a number: 20 at most, and the same that the library prints.
 use Prim.Native.Nat.{ℕ, zero, suc, ◌+◌, ◌/◌, ◌%◌, ◌^◌, ◌≤◌, ◌<◌}
 use native.Mathlib.Omega.{arith}
-use native.Mathlib.Nat.{pow-succ'}
-use mathlib.Core.Path.{◌≡◌, refl, sym, ◌∙◌, ap}
+use mathlib.Core.Path.{◌≡◌, ap}
 use mathlib.Core.Bool.{Bool, true, false, cond}
 use mathlib.Core.List.{List, [], ◌∷◌, ◌++◌}
 use lib.Dec.{ltb}
-use lib.ListN.{length, set, length-append}
-use borrow.Author.Tests.{ltb-false, lt-ltb, le-ltb}
+use lib.ListN.{length, length-append}
+use borrow.Author.Tests.{lt-ltb, le-ltb}
+use Rattle.std.specs.Fmt.{decimal as printed}
+use Rattle.std.proofs.lemmas.Fmt.{decimal_from_appends, length-decimal-le}
 use Rattle.lines_text.specs.Text.{digits_within, decimal, field, Appends}
-use Rattle.lines_text.proofs.Appending.{appends-byte, appends-then}
+use Rattle.lines_text.proofs.Appending.{appends-then}
 
 short-if : (b : Bool) (x y : List ℕ) (k : ℕ) → length x ≤ k → length y ≤ k → length (cond b x y) ≤ k
 short-if true x y k h h' = h
@@ -41,38 +42,15 @@ field-two n end h =
     (omega (arith, length-append (digits_within 19 (n / 10)) last, ap length (small-digits 18 (n / 10) tens))) in
     omega (arith, length-append (digits_within 20 n) (end ∷ []), two)
 
--- One place more says no more of a number that has a digit for each of its places.
-deeper-if : (k n : ℕ) → n < 10 ^ suc k → (b : Bool) → ltb n 10 ≡ b
-    → (10 ≤ n → digits_within (suc k) (n / 10) ≡ digits_within k (n / 10)) → digits_within (suc (suc k)) n ≡ digits_within (suc k) n
-deeper-if k n h true e up = rw e
-deeper-if k n h false e up = rw e (ap (λ (l : List ℕ). l ++ ((48 + n % 10) ∷ [])) (up (ltb-false n 10 e)))
-
-deeper : (k n : ℕ) → n < 10 ^ suc k → digits_within (suc (suc k)) n ≡ digits_within (suc k) n
-deeper zero n h = deeper-if zero n h (ltb n 10) refl (λ m. absurd (omega arith))
-deeper (suc k) n h = deeper-if (suc k) n h (ltb n 10) refl (λ m. deeper k (n / 10) (omega (arith, h, pow-succ' 10 (suc k))))
-
-pub decimal-one : (n : ℕ) → n < 10 → decimal n ≡ (48 + n) ∷ []
+-- The library prints the same digits.
+pub decimal-printed : (n : ℕ) → n < 2 ^ 64 → decimal n ≡ printed n
 unfolding decimal
-decimal-one n h = small-digits 19 n h
-
-pub decimal-more : (n : ℕ) → n < 2 ^ 64 → 10 ≤ n → decimal n ≡ decimal (n / 10) ++ ((48 + n % 10) ∷ [])
-unfolding decimal
-decimal-more n fits h =
-    large-digits 19 n h ∙ ap (λ (l : List ℕ). l ++ ((48 + n % 10) ∷ [])) (sym (deeper 18 (n / 10) (omega arith)))
-
-pub decimal-short : (n : ℕ) → length (decimal n) ≤ 20
-unfolding decimal
-decimal-short n = digits-short 20 n
+decimal-printed n h =
+    decimal_from_appends digits_within (record { one = small-digits; more = large-digits }) 20 n h (length-decimal-le 20 n (omega arith) (omega arith) h)
 
 -- A number's digits are appended, and then the byte after them.
-pub field-appends : {old mid : List ℕ} {at m : ℕ} (n end : ℕ) → Appends old at (decimal n) mid m → m < length mid
-    → Appends old at (field n end) (set mid m end) (m + 1)
-field-appends {old} {mid} {at} {m} n end x h = appends-then x (appends-byte mid m end h)
+pub field-appends : {old mid new digits : List ℕ} {at m e : ℕ} (n end : ℕ) → n < 2 ^ 64 → digits ≡ printed n → Appends old at digits mid m
+    → Appends mid m (end ∷ []) new e → Appends old at (field n end) new e
+field-appends n end fits is x y = rw (decimal-printed n fits, ← is) (appends-then x y)
 
--- One digit is the whole of a number below ten; any other number's last digit comes after the rest.
-pub digit-appends : {old : List ℕ} {at : ℕ} (n : ℕ) → n < 10 → at < length old → Appends old at (decimal n) (set old at (48 + n)) (at + 1)
-digit-appends {old} {at} n h r = rw (decimal-one n h) (appends-byte old at (48 + n) r)
-
-pub digits-append : {old mid : List ℕ} {at m : ℕ} (n : ℕ) → n < 2 ^ 64 → 10 ≤ n → Appends old at (decimal (n / 10)) mid m → m < length mid
-    → Appends old at (decimal n) (set mid m (48 + n % 10)) (m + 1)
-digits-append {old} {mid} {at} {m} n fits h x r = rw (decimal-more n fits h) (appends-then x (appends-byte mid m (48 + n % 10) r))
+pub ruleset short_fields = (field-short)

@@ -1,58 +1,28 @@
 -- The lines of a plan's bytes and of pairs' bytes, taken from the front, and how much they take at most.
-use Prim.Native.Nat.{ℕ, ◌+◌, ◌*◌, ◌≤◌, ◌<◌}
-use native.Mathlib.Numerals.{add-one}
+use Prim.Native.Nat.{ℕ, ◌*◌, ◌≤◌, ◌<◌}
 use native.Mathlib.Omega.{arith}
-use mathlib.Core.Path.{◌≡◌, refl, sym, ◌∙◌, ap}
+use mathlib.Core.Path.{◌≡◌, ap}
 use mathlib.Core.List.{List, [], ◌∷◌, ◌++◌}
-use lib.ListN.{length, drop, get_or, length-append, length-drop}
-use lib.Seq.{drop-cons}
+use lib.ListN.{length, get_or, length-append}
 use Rattle.split.specs.Lines.{newline}
 use Rattle.lines_text.specs.Text.{space, field, step_line, step_lines, pair_line, pair_lines, read_line, refused_line}
 use Rattle.lines_text.proofs.Decimal.{field-short, field-two}
 
-part-cons : (l : List ℕ) (s : ℕ) → s < length l → drop s l ≡ get_or l s 0 ∷ drop (s + 1) l
-part-cons l s h = drop-cons l s 0 h ∙ ap (λ (n : ℕ). get_or l s 0 ∷ drop n l) (sym (add-one s))
+pub steps-turn : {plan : List ℕ} (step rest : List ℕ) → length step ≡ 4 → plan ≡ step ++ rest
+    → step_lines plan ≡ step_line (get_or step 0 0) (get_or step 1 0) (get_or step 2 0) (get_or step 3 0) ++ step_lines rest
+steps-turn [] rest four e = absurd (omega arith)
+steps-turn (p ∷ []) rest four e = absurd (omega arith)
+steps-turn (p ∷ i ∷ []) rest four e = absurd (omega arith)
+steps-turn (p ∷ i ∷ k ∷ []) rest four e = absurd (omega arith)
+steps-turn (p ∷ i ∷ k ∷ j ∷ []) rest four e = ap step_lines e
+steps-turn (p ∷ i ∷ k ∷ j ∷ a ∷ l) rest four e = absurd (omega arith)
 
-pub steps-turn : (plan : List ℕ) (s : ℕ) → s + 4 ≤ length plan
-    → step_lines (drop s plan)
-    ≡ step_line (get_or plan s 0) (get_or plan (s + 1) 0) (get_or plan (s + 2) 0) (get_or plan (s + 3) 0) ++ step_lines (drop (s + 4) plan)
-steps-turn plan s h =
-    let y : s + 1 + 1 ≡ s + 2 = omega arith in
-    let z : s + 2 + 1 ≡ s + 3 = omega arith in
-    let w : s + 3 + 1 ≡ s + 4 = omega arith in
-    rw (
-      part-cons plan s (omega arith),
-      part-cons plan (s + 1) (omega arith),
-      y,
-      part-cons plan (s + 2) (omega arith),
-      z,
-      part-cons plan (s + 3) (omega arith),
-      w,
-    )
-
-few-steps : (l : List ℕ) → length l < 4 → step_lines l ≡ []
-few-steps [] h = refl
-few-steps (a ∷ []) h = refl
-few-steps (a ∷ b ∷ []) h = refl
-few-steps (a ∷ b ∷ c ∷ []) h = refl
-few-steps (a ∷ b ∷ c ∷ d ∷ l) h = absurd (omega arith)
-
-pub steps-end : (plan : List ℕ) (s : ℕ) → length plan < s + 4 → step_lines (drop s plan) ≡ []
-steps-end plan s h = few-steps (drop s plan) (omega (arith, length-drop s plan))
-
-few-pairs : (l : List ℕ) → length l < 2 → pair_lines l ≡ []
-few-pairs [] h = refl
-few-pairs (a ∷ []) h = refl
-few-pairs (a ∷ b ∷ l) h = absurd (omega arith)
-
-pub pairs-turn : (pairs : List ℕ) (s : ℕ) → s + 2 ≤ length pairs
-    → pair_lines (drop s pairs) ≡ pair_line (get_or pairs s 0) (get_or pairs (s + 1) 0) ++ pair_lines (drop (s + 2) pairs)
-pairs-turn pairs s h =
-    let z : s + 1 + 1 ≡ s + 2 = omega arith in
-    rw (part-cons pairs s (omega arith), part-cons pairs (s + 1) (omega arith), z)
-
-pub pairs_end : (pairs : List ℕ) (s : ℕ) → length pairs < s + 2 → pair_lines (drop s pairs) ≡ []
-pairs_end pairs s h = few-pairs (drop s pairs) (omega (arith, length-drop s pairs))
+pub pairs-turn : {pairs : List ℕ} (pair rest : List ℕ) → length pair ≡ 2 → pairs ≡ pair ++ rest
+    → pair_lines pairs ≡ pair_line (get_or pair 0 0) (get_or pair 1 0) ++ pair_lines rest
+pairs-turn [] rest two e = absurd (omega arith)
+pairs-turn (a ∷ []) rest two e = absurd (omega arith)
+pairs-turn (a ∷ b ∷ []) rest two e = ap pair_lines e
+pairs-turn (a ∷ b ∷ c ∷ l) rest two e = absurd (omega arith)
 
 -- What the lines take at most.
 pub step-short : (p i k j : ℕ) → length (step_line p i k j) ≤ 84

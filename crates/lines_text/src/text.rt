@@ -1,33 +1,20 @@
 // The text of an answer, appended to a buffer: `at` is how many bytes of the buffer are in use, and each function answers how many
-// are afterwards. A field takes at most 21 bytes: 20 digits, and the byte after them.
+// are afterwards. A field takes at most 21 bytes: 20 digits, and the byte after them. Buffer and place stay two parameters: a struct that
+// holds the buffer's `&mut` has every contract say that it is still the same buffer. `write!` into the buffer could fail, for all that its
+// contract says, so the digits are `itoa`'s.
+#![tactic(auto, using(crate::proofs::Decimal::short_fields))]
+
 ghost use Rattle.std.specs.Prelude.{◌+◌, ◌*◌, ◌≤◌, length};
-ghost use Rattle.lines_text.specs.Text.{Appends, decimal, field, step_line, step_lines, pair_line, pair_lines, read_line, refused_line};
+ghost use Rattle.lines_text.specs.Text.{Appends, field, step_line, step_lines, pair_line, pair_lines, read_line, refused_line};
 
 // Bytes as they are.
 pub fn put(out: &mut [u8], at: usize, text: &[u8]) -> usize
     requires { at + length text.now ≤ length out.old }
     ensures { Appends out.old at text.now out.new result }
 {
-    let mut i = 0;
-    while i < text.len() {
-        out[at + i] = text[i];
-        i += 1;
-    }
-    at + i
-}
-
-// A number's digits, the most significant first.
-fn put_digits(out: &mut [u8], at: usize, n: u64) -> usize
-    requires { at + length (decimal n) ≤ length out.old }
-    ensures { Appends out.old at (decimal n) out.new result }
-{
-    if n < 10 {
-        out[at] = b'0' + n as u8;
-        return at + 1;
-    }
-    let after = put_digits(out, at, n / 10);
-    out[after] = b'0' + (n % 10) as u8;
-    after + 1
+    let end = at + text.len();
+    out[at..end].copy_from_slice(text);
+    end
 }
 
 // A number and the byte that ends its field.
@@ -35,9 +22,9 @@ fn put_field(out: &mut [u8], at: usize, n: u64, end: u8) -> usize
     requires { at + 21 ≤ length out.old }
     ensures { Appends out.old at (field n end) out.new result }
 {
-    let after = put_digits(out, at, n);
-    out[after] = end;
-    after + 1
+    let mut digits = itoa::Buffer::new();
+    let after = put(out, at, digits.format(n).as_bytes());
+    put(out, after, &[end])
 }
 
 // A refused line's number.
@@ -64,10 +51,10 @@ fn put_step(out: &mut [u8], at: usize, production: u8, i: u8, k: u8, j: u8) -> u
     requires { at + 84 ≤ length out.old }
     ensures { Appends out.old at (step_line production i k j) out.new result }
 {
-    let after = put_field(out, at, production as u64, b' ');
-    let after = put_field(out, after, i as u64, b' ');
-    let after = put_field(out, after, k as u64, b' ');
-    put_field(out, after, j as u64, b'\n')
+    let after = put_field(out, at, u64::from(production), b' ');
+    let after = put_field(out, after, u64::from(i), b' ');
+    let after = put_field(out, after, u64::from(k), b' ');
+    put_field(out, after, u64::from(j), b'\n')
 }
 
 // A line for each step of a plan, four bytes each.
@@ -76,10 +63,8 @@ pub fn put_steps(out: &mut [u8], at: usize, plan: &[u8]) -> usize
     ensures { Appends out.old at (step_lines plan.now) out.new result }
 {
     let mut after = at;
-    let mut s = 0;
-    while s + 4 <= plan.len() {
-        after = put_step(out, after, plan[s], plan[s + 1], plan[s + 2], plan[s + 3]);
-        s += 4;
+    for step in plan.chunks_exact(4) {
+        after = put_step(out, after, step[0], step[1], step[2], step[3]);
     }
     after
 }
@@ -90,8 +75,8 @@ fn put_pair(out: &mut [u8], at: usize, given: u8, taken: u8) -> usize
     ensures { Appends out.old at (pair_line given taken) out.new result }
 {
     let after = put(out, at, b"pair ");
-    let after = put_field(out, after, given as u64, b' ');
-    put_field(out, after, taken as u64, b'\n')
+    let after = put_field(out, after, u64::from(given), b' ');
+    put_field(out, after, u64::from(taken), b'\n')
 }
 
 // A line for each pair, two bytes each.
@@ -100,10 +85,8 @@ pub fn put_pairs(out: &mut [u8], at: usize, pairs: &[u8]) -> usize
     ensures { Appends out.old at (pair_lines pairs.now) out.new result }
 {
     let mut after = at;
-    let mut p = 0;
-    while p + 2 <= pairs.len() {
-        after = put_pair(out, after, pairs[p], pairs[p + 1]);
-        p += 2;
+    for pair in pairs.chunks_exact(2) {
+        after = put_pair(out, after, pair[0], pair[1]);
     }
     after
 }

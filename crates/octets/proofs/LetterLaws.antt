@@ -1,12 +1,15 @@
 -- Runs of letters, taken byte by byte, and the parts of a list of bytes that they stand in.
 use Prim.Native.Nat.{ℕ, suc, ◌+◌, ◌-◌, ◌≤◌, ◌<◌}
 use native.Mathlib.Omega.{arith}
-use mathlib.Core.Path.{◌≡◌, sym, ◌∙◌, ap}
-use mathlib.Core.Bool.{Bool, true}
+use mathlib.Core.Path.{◌≡◌, refl, sym, ◌∙◌, ap}
+use mathlib.Core.Bool.{Bool, true, false, cond}
 use mathlib.Core.List.{List, [], ◌∷◌, ◌++◌}
 use lib.ListN.{length, take, drop, length-take, length-drop, take-append-drop}
 use lib.Seq.{take-suc, take-add, take-length, drop-drop, get_or-drop}
-use borrow.Author.Tests.{le-leb}
+use Rattle.std.specs.Char.{is_ascii_lowercase}
+use Rattle.std.specs.List.{prefix_len}
+use Rattle.std.proofs.lemmas.List.Folds.{length-prefix_len}
+use Rattle.std.proofs.lemmas.List.Sums.{prefix_len-le-length}
 use Rattle.layout.specs.Bytes.{byte_at, is_letter, all_bytes}
 use Rattle.layout.proofs.TestLaws.{both}
 use Rattle.octets.specs.Letters.{part, Letters}
@@ -21,9 +24,6 @@ all_append test (x ∷ a) b e f =
 -- Parts of a list of bytes.
 pub part_length : (bytes : List ℕ) (start i : ℕ) → i ≤ length bytes → length (part bytes start i) ≡ i - start
 part_length bytes start i h = simp (length-take, length-drop) (omega arith)
-
-pub part_none : (bytes : List ℕ) (start : ℕ) → part bytes start start ≡ []
-part_none bytes start = let e : start - start ≡ 0 = omega arith in rw e
 
 pub part-more : (bytes : List ℕ) (start i : ℕ) → start ≤ i → i < length bytes
     → part bytes start (i + 1) ≡ part bytes start i ++ (byte_at bytes i ∷ [])
@@ -40,9 +40,6 @@ part-rest bytes start stop a =
     sym (take-append-drop (stop - start) (drop start bytes)) ∙ rw (drop-drop, f)
 
 -- Runs of letters.
-pub letters-none : {bytes : List ℕ} {at : ℕ} → at ≤ length bytes → Letters bytes at at
-letters-none {bytes} {at} h = record { after = omega arith; within = h; letters = rw (part_none bytes at) }
-
 pub letters-more : {bytes : List ℕ} {at i : ℕ} → Letters bytes at i → i < length bytes → is_letter (byte_at bytes i) ≡ true
     → Letters bytes at (i + 1)
 letters-more {bytes} {at} {i} s h e =
@@ -65,8 +62,28 @@ letters-join {bytes} {at} {i} {stop} s t =
           rw (sum, take-add, drop-drop, place) (all_append is_letter (part bytes at i) (part bytes i stop) s.letters t.letters);
     }
 
-pub small-letter : (b : ℕ) → 0x61 ≤ b → b ≤ 0x7A → is_letter b ≡ true
-small-letter b low high = rw (le-leb 0x61 b low, le-leb b 0x7A high)
+-- As many letters a to z as the rest of the bytes begins with.
+small-run : (bytes : List ℕ) → all_bytes is_letter (take (prefix_len is_ascii_lowercase bytes) bytes) ≡ true
+small-run [] = refl
+small-run (b ∷ bytes) = go (is_ascii_lowercase b) refl (prefix_len is_ascii_lowercase bytes) (small-run bytes)
+  where
+    go : (t : Bool) → is_ascii_lowercase b ≡ t → (n : ℕ) → all_bytes is_letter (take n bytes) ≡ true
+        → all_bytes is_letter (take (cond t (1 + n) 0) (b ∷ bytes)) ≡ true
+    go true e n h = let one : 1 + n ≡ suc n = omega arith in rw (one, e) h
+    go false e n h = refl
+
+pub letters-run : (bytes : List ℕ) (at : ℕ) {n : ℕ} → at ≤ length bytes
+    → n ≡ length (take (prefix_len is_ascii_lowercase (drop at bytes)) (drop at bytes)) → Letters bytes at (at + n)
+letters-run bytes at {n} h e =
+    let rest = drop at bytes in
+    let run = prefix_len is_ascii_lowercase rest in
+    let same : n ≡ run = e ∙ length-prefix_len is_ascii_lowercase rest in
+    let all : at + n - at ≡ run = omega arith in
+    record {
+      after = omega arith;
+      within = omega (arith, prefix_len-le-length is_ascii_lowercase rest, length-drop at bytes);
+      letters = rw all (small-run rest);
+    }
 
 -- Up to the end: all bytes are letters.
 pub letters-whole : {bytes : List ℕ} {i : ℕ} → Letters bytes 0 i → length bytes ≤ i → true ≡ all_bytes is_letter bytes

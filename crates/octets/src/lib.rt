@@ -1,4 +1,4 @@
-// Bytes of a slice: read, widened, and tests of all of them. A byte is widened by one function, and 16 bits are read by one.
+// Bytes of a slice: read, also two at a time, and tests of all of them.
 #![tactic(auto)]
 
 ghost use Rattle.std.specs.Prelude.{◌≡◌, ◌<◌, ◌≤◌, ◌+◌, eqb, length};
@@ -9,24 +9,7 @@ ghost use Rattle.octets.specs.Letters.{Letters};
 pub fn byte(s: &[u8], k: usize) -> u8
     ensures { result ≡ byte_at s.now k }
 {
-    if s.len() <= k {
-        return 0;
-    }
-    s[k]
-}
-
-// A byte as a number to count with.
-pub fn wide(b: u8) -> usize
-    ensures { (result ≡ b) × (result < 256) }
-{
-    b as usize
-}
-
-// 16 bits as a number to count with.
-pub fn wide16(x: u16) -> usize
-    ensures { (result ≡ x) × (result < 65536) }
-{
-    x as usize
+    s.get(k).copied().unwrap_or(0)
 }
 
 // The 16-bit number at a place, low byte first.
@@ -34,53 +17,39 @@ pub fn read16(s: &[u8], at: usize) -> usize
     requires { at + 2 ≤ length s.now }
     ensures { (result ≡ number16_at s.now at) × (result < 65536) }
 {
-    wide(s[at]) + 256 * wide(s[at + 1])
+    usize::from(u16::from_le_bytes([s[at], s[at + 1]]))
 }
 
 // a to z and 0 to 9.
 pub fn is_letter(b: u8) -> bool
     ensures { result ≡ is_letter b }
 {
-    if b < b'0' {
-        return false;
-    }
-    if b <= b'9' {
-        return true;
-    }
-    if b < b'a' {
-        return false;
-    }
-    b <= b'z'
+    matches!(b, b'a'..=b'z' | b'0'..=b'9')
 }
 
-// Past the letters a to z that stand at `at`. Most words are one such run, and its loop has one test for a byte.
+// Past the letters a to z that stand at `at`. Most words are one such run.
 pub fn past_small(s: &[u8], at: usize) -> usize
     requires { at ≤ length s.now }
     ensures { Letters s.now at result }
 {
-    let mut end = at;
-    while end < s.len() {
-        let b = s[end];
-        if b < b'a' {
-            return end;
-        }
-        if b'z' < b {
-            return end;
-        }
-        end += 1;
-    }
-    end
+    at + s[at..]
+        .iter()
+        .take_while(|b| b.is_ascii_lowercase())
+        .count()
 }
 
+// Most words are letters a to z alone, which is one test for a byte. Here and below a `for`: the library's `all` and its `==` of slices go
+// by groups, and divide for that; the archive has no division.
 pub fn all_letters(s: &[u8]) -> bool
     ensures { result ≡ all_bytes is_letter s.now }
 {
-    let mut i = past_small(s, 0);
-    while i < s.len() {
-        if !is_letter(s[i]) {
+    if past_small(s, 0) == s.len() {
+        return true;
+    }
+    for b in s {
+        if !is_letter(*b) {
             return false;
         }
-        i = past_small(s, i + 1);
     }
     true
 }
@@ -88,12 +57,10 @@ pub fn all_letters(s: &[u8]) -> bool
 pub fn all_zero(s: &[u8]) -> bool
     ensures { result ≡ all_bytes (eqb 0) s.now }
 {
-    let mut k = 0;
-    while k < s.len() {
-        if s[k] != 0 {
+    for b in s {
+        if *b != 0 {
             return false;
         }
-        k += 1;
     }
     true
 }
@@ -105,12 +72,10 @@ pub fn same_bytes(a: &[u8], b: &[u8]) -> bool
     if a.len() != b.len() {
         return false;
     }
-    let mut i = 0;
-    while i < a.len() {
+    for i in 0..a.len() {
         if a[i] != b[i] {
             return false;
         }
-        i += 1;
     }
     true
 }

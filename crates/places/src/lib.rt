@@ -1,7 +1,17 @@
-// The words of an accepted line, place by place, as sets of word numbers: `[u32; MOST_WORDS]`, a bit for each number. Their test is that of
-// specs/Places.antt, and `bits::has` asks it of one place.
-
+// The words of an accepted line, place by place, as sets of word numbers: a bit for each number. Their test is that of specs/Places.antt,
+// and `bits::has` asks it of one place.
 #![tactic(auto)]
+
+ghost use Rattle.std.specs.Prelude.{◌<◌, ◌≤◌};
 
 // The most words that a line may have.
 pub const MOST_WORDS: usize = 24;
+
+// How many words, and at each place the set of those that are spelled so, none past the last.
+#[derive(Clone, Copy)]
+pub struct Words {
+    pub count: usize,
+    pub places: [u32; MOST_WORDS],
+    pub ghost some: { 0 < count },
+    pub ghost few: { count ≤ 24 },
+}

@@ -5,4 +5,3 @@ pub mod Starts
 pub mod Answers
 pub mod Ends
 pub mod PlanRead
-pub mod Planning

@@ -23,18 +23,18 @@ use Rattle.layout.proofs.CardLaws.{card-one-sided}
 use Rattle.layout.proofs.Reading.{line-below}
 use Rattle.layout.proofs.TestLaws.{unless-true}
 use Rattle.layout.proofs.Charts.{chart-count}
-use Rattle.chart.specs.declared.Built.TheVariants.{Chart}
+use Rattle.std.specs.Prelude.{Some}
 use Rattle.chart.specs.Built.{BuiltRoom}
 use Rattle.records.proofs.RoomLaws.{chart-bytes-length}
 use Rattle.chart.proofs.BuiltLaws.{built-count, built-fits}
 use Rattle.unfold.specs.Unfold.{Held, RecordedWay, Found}
-use Rattle.unfold.specs.declared.Start.TheVariants.{At, Missing}
+use Rattle.std.specs.Prelude.{Some, None}
 use Rattle.unfold.proofs.Starting.{stands-among}
 use Rattle.layout.proofs.CountedLaws.{table-stands, stands-below, stands-there}
 use Rattle.reader.proofs.ReadBack.{chart-read-back}
 
 module _ (card line old new : List ℕ) (count : ℕ) (accepted : card_number card ≡ 0)
-    (built : BuiltRoom card (line_test card line) (words_in line) (Chart count) old new) where
+    (built : BuiltRoom card (line_test card line) (words_in line) (Some count) old new) where
   abbrev chart : List Record
   chart = built.room.0
 
@@ -78,21 +78,21 @@ module _ (card line old new : List ℕ) (count : ℕ) (accepted : card_number ca
   pub items-fit : length (derivable card line) ≤ capacity (length old)
   items-fit = built-fits card (line_test card line) (words_in line) built
 
-  pub start-there : (m : ℕ) → Found new count (words_in line) (At m) → start_found card line ≡ true
+  pub start-there : (m : ℕ) → Found new count (words_in line) (Some m) → start_found card line ≡ true
   start-there m f =
       let n = words_in line in
       let d = justified-derived (grammar_of card) (Holds (line_test card line)) (chart_in new count) read-chart.justified
       (table-stands (record_at new) f.place.0) f.place.1 in
       among-mem (items-complete (grammar_of card) (line_test card line) n (line-below card line) 0 0 n bare d)
 
-  pub start_first : (m : ℕ) {plan : List PlanStep} → Found new count (words_in line) (At m)
+  pub start_first : (m : ℕ) {plan : List PlanStep} → Found new count (words_in line) (Some m)
       → RecordedWay card (line_test card line) new count m [] plan
       → FirstPlan (grammar_of card) (Holds (line_test card line)) (words_in line) plan
   start_first m f w =
       first-plan (grammar_of card) (Holds (line_test card line)) (chart_in new count) (card-one-sided card) read-chart read_first
       (table-stands (record_at new) f.place.0) f.place.1 w
 
-  start-refuted : Found new count (words_in line) Missing → start_found card line ≡ true → ⊥
+  start-refuted : Found new count (words_in line) None → start_found card line ≡ true → ⊥
   start-refuted missing e =
       let n = words_in line in
       let d = items-sound (grammar_of card) (line_test card line) n 0 0 n bare (among-true (item 0 0 n bare) (derivable card line) e) in
@@ -102,5 +102,5 @@ module _ (card line old new : List ℕ) (count : ℕ) (accepted : card_number ca
       let number : ◌≡◌ {A = ℕ} 25 0 = missing.number ∙ ap (λ (t : Bool). cond t 0 25) stands in
       absurd (omega arith)
 
-  pub start-missing : Found new count (words_in line) Missing → start_found card line ≡ false
+  pub start-missing : Found new count (words_in line) None → start_found card line ≡ false
   start-missing missing = unless-true (start_found card line) λ e. absurd (start-refuted missing e)

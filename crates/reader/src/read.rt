@@ -1,88 +1,63 @@
 // One line: accepted or refused, its chart, and its plan.
-ghost use Rattle.std.specs.Prelude.{◌≡◌};
-ghost use Rattle.layout.specs.Card.{card_number};
 ghost use Rattle.reader.specs.Read.{Reads};
-ghost use Rattle.reader.specs.Ended.{Refuses, Charted, PlanOf};
+ghost use Rattle.reader.specs.Ended.{Charted, PlanOf};
 
-use chart::Built;
-use unfold::Start;
+use card::Card;
+use refusals::Refusal;
 
-// A number (0 is read), words, items and steps.
+// What the chart of an accepted line says: how many words and items there are, and how many steps its plan has, if there is one.
 #[derive(Clone, Copy)]
-pub struct Answer {
-    pub number: u64,
+pub struct Reading {
     pub words: usize,
     pub items: usize,
-    pub steps: usize,
-}
-
-fn refusal(number: u64) -> Answer
-    ensures { Refuses number result }
-{
-    Answer {
-        number,
-        words: 0,
-        items: 0,
-        steps: 0,
-    }
+    pub steps: Option<usize>,
 }
 
 // The chart of n words is in its room, with so many items: the plan of the item of the start over them, if it is there.
-fn plan_of(card: &[u8], n: usize, count: usize, chart: &[u8], plan: &mut [u8]) -> Answer
-    requires { Charted card.now chart.now n count plan.old }
-    ensures { PlanOf card.now chart.now n count plan.old plan.new result }
+fn plan_of(card: Card, n: usize, items: usize, chart: &[u8], plan: &mut [u8]) -> Reading
+    requires { Charted card.bytes.now chart.now n items plan.old }
+    ensures { PlanOf card.entry.bytes.now chart.now n items plan.old plan.new result }
 {
-    let start = unfold::find_start(chart, count, n);
-    match start {
-        Start::At(m) => {
-            unfold::unfold(card, chart, count, m, n, plan);
-            Answer {
-                number: 0,
-                words: n,
-                items: count,
-                steps: 2 * n - 1,
-            }
-        }
-        Start::Missing => Answer {
-            number: 25,
+    let Some(m) = unfold::find_start(chart, items, n) else {
+        return Reading {
             words: n,
-            items: count,
-            steps: 0,
-        },
+            items,
+            steps: None,
+        };
+    };
+    unfold::unfold(card, chart, items, m, n, plan);
+    Reading {
+        words: n,
+        items,
+        steps: Some(2 * n - 1),
     }
 }
 
 // One line under an accepted card.
-pub fn read_line(card: &[u8], line: &[u8], chart: &mut [u8], plan: &mut [u8]) -> Answer
-    requires { card_number card.now ≡ 0 }
-    ensures { Reads card.now line.now
+pub fn read_line(
+    card: Card,
+    line: &[u8],
+    chart: &mut [u8],
+    plan: &mut [u8],
+) -> Result<Reading, Refusal>
+    ensures { Reads card.entry.bytes.now line.now
         chart.old plan.old chart.new plan.new result }
 {
-    let a = line::accept_line(card, line);
-    let number = a.number;
-    if number != 0 {
-        return refusal(number);
-    }
-    let n = a.count;
-    let places = a.places;
+    let words = line::accept_line(card, line)?;
+    let n = words.count;
     if plan.len() < 4 * (2 * n - 1) {
-        return refusal(32);
+        return Err(Refusal::PlanRoom);
     }
-    let built = chart::build_chart(card, &places, n, chart);
-    match built {
-        Built::Chart(count) => plan_of(card, n, count, chart, plan),
-        Built::TooMany => refusal(31),
-    }
+    let Some(items) = chart::build_chart(card, &words, chart) else {
+        return Err(Refusal::ChartRoom);
+    };
+    Ok(plan_of(card, n, items, chart, plan))
 }
 
 // The card's refusals, and then the line.
-pub fn read(card: &[u8], line: &[u8], chart: &mut [u8], plan: &mut [u8]) -> Answer
+pub fn read(card: &[u8], line: &[u8], chart: &mut [u8], plan: &mut [u8]) -> Result<Reading, Refusal>
     ensures { Reads card.now line.now
         chart.old plan.old chart.new plan.new result }
 {
-    let refused = card::card_number(card);
-    if refused != 0 {
-        return refusal(refused);
-    }
-    read_line(card, line, chart, plan)
+    read_line(Card::check(card)?, line, chart, plan)
 }

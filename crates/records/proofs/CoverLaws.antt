@@ -1,7 +1,6 @@
 -- Cells that another cells. The chart only grows, so what cells goes on to cover; and two cells with one number are one, so a number
 -- in the table says of which cell it is and a new number changes one cell's entry.
 use Prim.Native.Nat.{ℕ, zero, suc, ◌+◌, ◌*◌, ◌-◌, ◌≤◌, ◌<◌}
-use native.Mathlib.Numerals.{add-one}
 use native.Mathlib.Nat.{add-zero}
 use native.Mathlib.Decide.{ℕ_discrete}
 use native.Mathlib.Omega.{arith}
@@ -13,8 +12,7 @@ use mathlib.Core.List.{List, [], ◌∷◌, ◌++◌, Memᴰ}
 use mathlib.Core.Option.{some}
 use lib.Dec.{eqb}
 use lib.ListN.{length, replicate, get_or-replicate}
-use lib.Seq.{set-get_or}
-use borrow.Author.Tests.{eqb-true, eq-eqb, ne_eqb}
+use borrow.Author.Tests.{eqb-true}
 use Rattle.grammar.specs.Items.{Foot}
 use Rattle.grammar.specs.ItemList.{Item, item}
 use Rattle.grammar.specs.Chart.{Record, recorded, item_of, Earlier, earlier}
@@ -126,32 +124,6 @@ grown-others {A} {i} {j} (more {b = e} r g o new) B p q φ other h =
       | inl n ↦ grown-others g B p q φ other (Memᴰ.cast f (map-in item_of n))
       | inr n ↦ absurd (other (of-cell A i j B p q φ r o (f ∙ ap item_of (Memᴰ.eq_of_singleton n))))
     ]
-
--- The test, from what the code finds in the table.
-pub reaches-none : (cells : List ℕ) (coverer : ℕ) {last : ℕ} → last ≡ 0 → reaches cells coverer last ≡ false
-reaches-none cells coverer e = rw e
-
-pub reaches_here : (cells : List ℕ) (coverer : ℕ) {last : ℕ} → last ≡ coverer + 1 → reaches cells coverer last ≡ true
-reaches_here cells coverer e = rw (e, add-one, eq-eqb coverer coverer refl)
-
-pub reaches-there : (cells : List ℕ) (coverer last : ℕ) → (last ≡ 0 → ⊥) → (last ≡ coverer + 1 → ⊥)
-    → eqb (cover_in cells (last - 1)) (coverer + 1) ≡ reaches cells coverer last
-reaches-there cells coverer zero d e = absurd (d refl)
-reaches-there cells coverer (suc m) d e =
-    let less : suc m - 1 ≡ m = omega arith in
-    rw (less, ne_eqb m coverer (λ q. e (omega arith)), add-one)
-
--- The table that the code leaves: as it was, whether the cell is covered by none or by the number that it has already, or noted.
-module _ (cells : List ℕ) (coverer cell : ℕ) where
-  pub left-as-is : covered_in cells coverer cell ≡ false → cells ≡ noted_anew cells coverer cell
-  left-as-is e = rw (e, noted_anew)
-
-  pub noted-already : covered_in cells coverer cell ≡ true → cover_in cells cell ≡ coverer + 1 → cells ≡ noted_anew cells coverer cell
-  noted-already e d =
-      rw (e, noted_anew) (sym (set-get_or cells (4 * cell + 3) 0) ∙ ap (with_cover cells cell) (d ∙ add-one coverer))
-
-  pub noted-now : covered_in cells coverer cell ≡ true → with_cover cells cell (coverer + 1) ≡ noted_anew cells coverer cell
-  noted-now e = rw (e, noted_anew, add-one)
 
 either_true : (x y : Bool) → (x || y) ≡ true → (x ≡ true) ⊎ (y ≡ true)
 either_true true y e = inl refl
@@ -267,7 +239,7 @@ module _ {n N A i j : ℕ} {b c : List Record} {cells : List ℕ} (t : Covering 
   covering-anew fits wider {D} {k} {m} f = go (covered_in cells (cell_at N A i j) (cell_at N D k m)) refl
     where
       has-records : covered_in cells (cell_at N A i j) (cell_at N D k m) ≡ true → places b D k m ≡ [] → ⊥
-      has-records e none = false≢true (sym (reaches-none cells (cell_at N A i j) (t.empty D k m f none)) ∙ e)
+      has-records e none = false≢true (sym (ap (reaches cells (cell_at N A i j)) (t.empty D k m f none)) ∙ e)
 
       go : (v : Bool) → covered_in cells (cell_at N A i j) (cell_at N D k m) ≡ v
           → Covering n N A i j b c (cond v (with_cover cells (cell_at N D k m) (suc (cell_at N A i j))) cells)

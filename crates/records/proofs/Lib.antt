@@ -4,5 +4,4 @@ pub mod RoomLaws
 pub mod MarkLaws
 pub mod AddLaws
 pub mod CoverLaws
-pub mod ClearLaws
 pub mod NumbersCleared

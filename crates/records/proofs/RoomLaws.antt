@@ -9,7 +9,7 @@ use mathlib.Core.Bool.{Bool, cond, false≢true}
 use mathlib.Core.List.{List, [], ◌∷◌, ◌++◌, map, append_assoc, append-nil}
 use mathlib.Core.Option.{some}
 use lib.ListN.{length, get_or, get_elem?, take, drop, length-append, length-drop, get_or-append}
-use lib.Seq.{get_or-take, take-take, take_at, drop_at, get_or-append-add, length-take-le, take_all, paste}
+use lib.Seq.{get_or-take, take-take, take_at, drop_at, get_or-append-add, length-take-le}
 use borrow.Author.Tests.{eq-eqb, ne_eqb}
 use Rattle.grammar.specs.Items.{Foot, bare, foot}
 use Rattle.grammar.specs.ItemList.{item, is_bare}
@@ -115,12 +115,6 @@ numbered-chart-length n N c = omega (arith, length-concat_map (numbered n N) 16 
 pub concat_map-last : {A B : Type 0} (f : A → List B) (l : List A) (x : A) → concat_map f (l ++ (x ∷ [])) ≡ concat_map f l ++ f x
 concat_map-last f [] x = append-nil (f x)
 concat_map-last f (y ∷ l) x = rw (concat_map-last f l x, append_assoc)
-
--- All of a source pasted into a room.
-pub pasted-whole : (d : List ℕ) (at : ℕ) (s : List ℕ) (n : ℕ) → length s ≡ n → paste d at s n ≡ take at d ++ (s ++ drop (at + n) d)
-pasted-whole d at s n e =
-    append_assoc (take at d) (take n s) (drop (at + n) d)
-    ∙ ap (λ (l : List ℕ). take at d ++ (l ++ drop (at + n) d)) (take_all n s (omega arith))
 
 -- A room after 16 bytes were put at position n, as a record's.
 abbrev pub placed : List ℕ → ℕ → List ℕ → List ℕ

@@ -1,5 +1,5 @@
 -- A cell is being filled: what its functions ask and promise, in terms of the one struct that they pass on.
-use Rattle.std.specs.Prelude.{ℕ, ◌-◌, ◌≤◌, ◌≡◌, List}
+use Rattle.std.specs.Prelude.{ℕ, ◌+◌, ◌-◌, ◌≤◌, ◌≡◌, List, Option, Some, None}
 use Rattle.grammar.specs.Chart.{Record}
 use Rattle.chart_model.specs.Build.{flat_up}
 use Rattle.records.specs.declared.record.OpenCell.{OpenCell}
@@ -18,16 +18,30 @@ abbrev pub WorksOn : OpenCell → List ℕ → List ℕ → ℕ → Type 0
 WorksOn cell chart marks count =
     Working cell.words cell.symbols cell.room cell.left cell.from cell.to chart marks count
 
+-- What the code answers: the count of items afterwards, none where the room is full. The relations above have one number: the count, and
+-- one above the room where it is full.
+abbrev pub count_after : ℕ → Option ℕ → ℕ
+count_after room None = room + 1
+count_after room (Some n) = n
+
+-- A count that is answered is one that the room holds.
+abbrev pub WithinRoom : ℕ → Option ℕ → Type 0
+WithinRoom room None = Unit {0}
+WithinRoom room (Some n) = n ≤ room
+
 -- What adding records to it leaves.
-abbrev pub AddedTo : OpenCell → List Record → List ℕ → List ℕ → ℕ → List ℕ → List ℕ → ℕ → Type 0
-AddedTo cell rs old old_marks count new new_marks after =
-    Added cell.words cell.symbols cell.room cell.left cell.from cell.to rs old old_marks count new new_marks after
+pub record AddedTo (cell : OpenCell) (rs : List Record) (old old_marks : List ℕ) (count : ℕ) (new new_marks : List ℕ) (after : Option ℕ)
+    : Type 0 where
+  pub added : Added cell.words cell.symbols cell.room cell.left cell.from cell.to rs old old_marks count
+      new new_marks (count_after cell.room after)
+  pub within : WithinRoom cell.room after
 
 -- What adding leaves where cells may be passed over.
-abbrev pub AdvancedTo : OpenCell → List Record → List ℕ → List ℕ → List ℕ → ℕ → List ℕ → List ℕ → List ℕ → ℕ → Type 0
-AdvancedTo cell rs old old_marks old_cells count new new_marks new_cells after =
-    Advanced cell.words cell.symbols cell.room cell.left cell.from cell.to cell.base rs old old_marks old_cells count
-    new new_marks new_cells after
+pub record AdvancedTo (cell : OpenCell) (rs : List Record) (old old_marks old_cells : List ℕ) (count : ℕ) (new new_marks new_cells : List ℕ)
+    (after : Option ℕ) : Type 0 where
+  pub advanced : Advanced cell.words cell.symbols cell.room cell.left cell.from cell.to cell.base rs old old_marks old_cells count
+      new new_marks new_cells (count_after cell.room after)
+  pub within : WithinRoom cell.room after
 
 -- A foot that fits, as it may be written, and its number.
 pub record FootGiven (cell : OpenCell) (foot : declared.Foot) (number : ℕ) : Type 0 where

@@ -5,7 +5,8 @@ ghost use Rattle.records.specs.Filling.{WorksOn, FootGiven, AddedTo};
 
 use crate::record::{Foot, OpenCell, Origin};
 
-// The count of items afterwards; one more than the room holds where it is full. The number is the foot's.
+// The count of items afterwards; none where the room is full. The number is the foot's.
+// Room, marks and count are no struct: of a `&mut` in a field each contract has to say besides that it is the same one afterwards.
 pub fn add(
     chart: &mut [u8],
     marks: &mut [u8],
@@ -14,18 +15,18 @@ pub fn add(
     number: usize,
     origin: Origin,
     count: usize,
-) -> usize
+) -> Option<usize>
     requires { WorksOn cell chart.old marks.old count × FootGiven cell foot number }
     ensures { AddedTo cell (record_from cell foot origin ∷ [])
         chart.old marks.old count chart.new marks.new result }
 {
     if crate::marks::seen(marks, number) {
-        return count;
+        return Some(count);
     }
     if cell.room <= count {
-        return cell.room + 1;
+        return None;
     }
     crate::marks::mark(marks, number);
     crate::record::put_record(chart, count, cell, foot, number as u16, origin);
-    count + 1
+    Some(count + 1)
 }

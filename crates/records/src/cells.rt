@@ -3,15 +3,14 @@
 ghost use Rattle.std.specs.Prelude.{◌≡◌, ◌+◌, ◌*◌, ◌≤◌, ◌<◌, length};
 ghost use Rattle.layout.specs.Card.{max_nonterminals};
 ghost use Rattle.layout.specs.Line.{most_words};
-ghost use Rattle.records.specs.Cells.{spans, span_at, cell_at, range_in, with_range, cover_in, with_cover, covered_in, noted_anew};
-
-use octets::wide16;
+ghost use Rattle.records.specs.Cells.{spans, span_at, cell_at, number_of, numbered_by, range_in, with_range, cover_in, with_cover};
+ghost use Rattle.records.specs.Cells.{covered_in, noted_anew};
 
 #[derive(Clone, Copy)]
 pub struct Range {
     pub from: usize,
     pub to: usize,
-    pub bare: usize,
+    pub bare: Option<usize>,
 }
 
 // The numbers of a cell.
@@ -39,20 +38,20 @@ pub fn range_of(cells: &[u16], cell: usize) -> Range
 {
     let at = NUMBERS * cell;
     Range {
-        from: wide16(cells[at]),
-        to: wide16(cells[at + 1]),
-        bare: wide16(cells[at + 2]),
+        from: usize::from(cells[at]),
+        to: usize::from(cells[at + 1]),
+        bare: usize::from(cells[at + 2]).checked_sub(1),
     }
 }
 
 pub fn put_range(cells: &mut [u16], cell: usize, r: Range)
-    requires { (4 * cell + 4 ≤ length cells.old) × (r.from < 65536) × (r.to < 65536) × (r.bare < 65536) }
+    requires { (4 * cell + 4 ≤ length cells.old) × (r.from < 65536) × (r.to < 65536) × (number_of r.bare < 65536) }
     ensures { cells.new ≡ with_range cells.old cell r }
 {
     let at = NUMBERS * cell;
     cells[at] = r.from as u16;
     cells[at + 1] = r.to as u16;
-    cells[at + 2] = r.bare as u16;
+    cells[at + 2] = r.bare.map_or(0, |m| m + 1) as u16;
 }
 
 // A cell covers another: it has every foot of it.
@@ -63,22 +62,29 @@ pub fn note_cover(cells: &mut [u16], coverer: usize, cell: usize)
     cells[NUMBERS * cell + 3] = (coverer + 1) as u16;
 }
 
+// The cell that is noted as another's cover.
+fn cover_of(cells: &[u16], cell: usize) -> Option<usize>
+    requires { 4 * cell + 4 ≤ length cells.now }
+    ensures { result ≡ numbered_by (cover_in cells.now cell) }
+{
+    usize::from(cells[NUMBERS * cell + 3]).checked_sub(1)
+}
+
 // Does a cell cover another, by itself or by a cell that it covers? Where it is by a third, that is noted anew, so that the next look is a
 // short one.
 pub fn is_covered(cells: &mut [u16], coverer: usize, cell: usize) -> bool
     requires { (coverer < 65535) × (4 * cell + 4 ≤ length cells.old) × (4 * cover_in cells.old cell ≤ length cells.old) }
     ensures { (result ≡ covered_in cells.old coverer cell) × (cells.new ≡ noted_anew cells.old coverer cell) }
 {
-    let last = wide16(cells[NUMBERS * cell + 3]);
-    if last == 0 {
+    let Some(last) = cover_of(cells, cell) else {
         return false;
-    }
-    if last == coverer + 1 {
+    };
+    if last == coverer {
         return true;
     }
-    if wide16(cells[NUMBERS * (last - 1) + 3]) != coverer + 1 {
-        return false;
+    let by_another = cover_of(cells, last) == Some(coverer);
+    if by_another {
+        note_cover(cells, coverer, cell);
     }
-    note_cover(cells, coverer, cell);
-    true
+    by_another
 }

@@ -12,17 +12,14 @@ pub fn seen(marks: &[u8], number: usize) -> bool
     requires { number / 8 < length marks.now }
     ensures { result ≡ mark_at marks.now number }
 {
-    let bit = bit_of(number);
-    marks[number >> 3] & bit != 0
+    marks[number >> 3] & bit_of(number) != 0
 }
 
 pub fn mark(marks: &mut [u8], number: usize)
     requires { number / 8 < length marks.old }
     ensures { MarkAdded number marks.old marks.new }
 {
-    let bit = bit_of(number);
-    let at = number >> 3;
-    marks[at] = marks[at] | bit;
+    marks[number >> 3] |= bit_of(number);
 }
 
 // Forgets all eight numbers of a byte.

@@ -17,7 +17,7 @@ pub struct OpenCell {
     pub to: u8,
 }
 
-// γ, B, p and q of an item; index 0 where there is no foot.
+// γ, B, p and q of an item; index 0 where there is no foot. The four bytes of a record as they stand, which C reads too, so no variant.
 #[derive(Clone, Copy)]
 pub struct Foot {
     pub index: u8,
@@ -26,7 +26,7 @@ pub struct Foot {
     pub to: u8,
 }
 
-// How an item was derived: its production and the positions of its antecedents, 65535 for none.
+// How an item was derived: its production and the positions of its antecedents, 65535 for none. They too are as a record has them.
 #[derive(Clone, Copy)]
 pub struct Origin {
     pub production: u8,
@@ -64,6 +64,7 @@ pub fn number_at(chart: &[u8], m: usize) -> usize
     octets::read16(chart, RECORD * m + 14)
 }
 
+// The two bytes of 16 bits. Not by `to_le_bytes`, which divides: the archive has no division.
 fn low(x: u16) -> u8
     ensures { result ≡ low_byte x }
 {
@@ -74,18 +75,6 @@ fn high(x: u16) -> u8
     ensures { result ≡ high_byte x }
 {
     (x >> 8) as u8
-}
-
-// All the bytes of src into the room at a place.
-fn put_all(room: &mut [u8], at: usize, src: &[u8; RECORD])
-    requires { (at + 16 ≤ length room.old) × (length src.now ≡ 16) }
-    ensures { room.new ≡ take at room.old ++ (src.now ++ drop (at + 16) room.old) }
-{
-    let mut k = 0;
-    while k < RECORD {
-        room[at + k] = src[k];
-        k += 1;
-    }
 }
 
 pub fn put_record(
@@ -118,5 +107,6 @@ pub fn put_record(
         low(number),
         high(number),
     ];
-    put_all(chart, RECORD * m, &bytes);
+    let at = RECORD * m;
+    chart[at..at + RECORD].copy_from_slice(&bytes);
 }

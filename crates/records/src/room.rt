@@ -9,22 +9,14 @@ use crate::record::{RECORD, RECORD_POWER};
 pub fn capacity(bytes: usize) -> usize
     ensures { result ≡ items_in bytes }
 {
-    let whole = bytes >> RECORD_POWER;
-    if 65535 < whole {
-        return 65535;
-    }
-    whole
+    (bytes >> RECORD_POWER).min(65535)
 }
 
 // Every byte is 0.
 pub fn clear(room: &mut [u8])
     ensures { room.new ≡ replicate (length room.old) 0 }
 {
-    let mut k = 0;
-    while k < room.len() {
-        room[k] = 0;
-        k += 1;
-    }
+    room.fill(0);
 }
 
 // The two last bytes of the first records are 0.
@@ -32,10 +24,8 @@ pub fn clear_numbers(chart: &mut [u8], count: usize)
     requires { 16 * count ≤ length chart.old }
     ensures { chart.new ≡ numbers_cleared count chart.old }
 {
-    let mut m = 0;
-    while m < count {
+    for m in 0..count {
         chart[RECORD * m + 14] = 0;
         chart[RECORD * m + 15] = 0;
-        m += 1;
     }
 }

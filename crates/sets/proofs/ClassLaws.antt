@@ -358,9 +358,6 @@ pub record WordsSoFar (sets : List ℕ) (words rest set : ℕ) : Type 0 where
   pub left : (w : ℕ) → bit_of w rest ≡ 1 → bit_of w words ≡ 1
   pub has : (w p : ℕ) → bit_of w words ≡ 1 → bit_of w rest ≡ 0 → bit_of p set ≡ 0 → bit_of p (get_or sets (word_at w) 0) ≡ 0
 
-pub words-none : (sets : List ℕ) (words : ℕ) → WordsSoFar sets words words 0
-words-none sets words = record { left = λ w o. o; has = λ w p o z y. absurd (omega arith) }
-
 module _ {sets : List ℕ} {words rest set : ℕ} (s : WordsSoFar sets words rest set) where
   -- A set of word numbers has none from its width on.
   pub word_small : {w : ℕ} → words < 2 ^ max_words → Least rest w → w < max_words

@@ -51,21 +51,29 @@ bytes-last (suc (suc (suc (suc (suc zero))))) A B C C' g h o z = absurd (o refl)
 bytes-last (suc (suc (suc (suc (suc (suc zero)))))) A B C C' g h o z = alike_last
 bytes-last (suc (suc (suc (suc (suc (suc (suc k))))))) A B C C' g h o z = absurd (omega arith)
 
--- The same of two productions of a card.
-module _ (card : List ℕ) (q p a b : ℕ) (at-q : a ≡ production_at card q) (at_p : b ≡ production_at card p) (most : byte_at card (production_at card q) ≤ 6)
-    (kind : byte_at card a ≡ byte_at card b) (left : byte_at card (a + 1) ≡ byte_at card (b + 1)) (index : byte_at card (a + 4) ≡ byte_at card (b + 4)) where
+-- The same of two productions of a card, which stand at a and b: no word productions, and of one kind, left side and index.
+abbrev pub SameBut : List ℕ → ℕ → ℕ → Type 0
+SameBut card a b =
+    (byte_at card a ≡ 0 → ⊥) × (byte_at card a ≡ byte_at card b) × (byte_at card (a + 1) ≡ byte_at card (b + 1))
+    × (byte_at card (a + 4) ≡ byte_at card (b + 4))
+
+module _ (card : List ℕ) (q p a b : ℕ) (at-q : a ≡ production_at card q) (at_p : b ≡ production_at card p)
+    (most : byte_at card (production_at card q) ≤ 6) (same : SameBut card a b) where
+  few : byte_at card a ≤ 6
+  few = subst (λ (x : ℕ). byte_at card x ≤ 6) (sym at-q) most
+
   pub alike-first : bit_and (byte_at card a) 1 ≡ 1 → byte_at card (a + 3) ≡ byte_at card (b + 3) → Alike (production card q) (production card p)
   alike-first odd dependent =
-      rw (← at-q, ← at_p, ← kind, ← left, ← index, ← dependent)
+      rw (← at-q, ← at_p, ← same.1, ← same.2, ← same.3, ← dependent)
       (bytes-first (byte_at card a) (byte_at card (a + 1)) (byte_at card (a + 2)) (byte_at card (b + 2)) (byte_at card (a + 3)) (byte_at card (a + 4))
-      (subst (λ (x : ℕ). byte_at card x ≤ 6) (sym at-q) most) odd)
+      few odd)
 
-  pub alike-last : (bit_and (byte_at card a) 1 ≡ 1 → ⊥) → (byte_at card a ≡ 0 → ⊥) → byte_at card (a + 2) ≡ byte_at card (b + 2)
+  pub alike-last : (bit_and (byte_at card a) 1 ≡ 1 → ⊥) → byte_at card (a + 2) ≡ byte_at card (b + 2)
       → Alike (production card q) (production card p)
-  alike-last even pair dependent =
-      rw (← at-q, ← at_p, ← kind, ← left, ← index, ← dependent)
+  alike-last even dependent =
+      rw (← at-q, ← at_p, ← same.1, ← same.2, ← same.3, ← dependent)
       (bytes-last (byte_at card a) (byte_at card (a + 1)) (byte_at card (a + 2)) (byte_at card (a + 3)) (byte_at card (b + 3)) (byte_at card (a + 4))
-      (subst (λ (x : ℕ). byte_at card x ≤ 6) (sym at-q) most) even pair)
+      few even same.0)
 
 -- The set of those before p.
 pub like-none : (card : List ℕ) (p : ℕ) → LikeBefore card p 0

@@ -4,7 +4,7 @@ use Prim.Native.Nat.{ℕ, zero, suc, ◌+◌, ◌*◌, ◌/◌, ◌%◌, ◌^◌
 use native.Mathlib.Nat.{le_refl}
 use native.Mathlib.Omega.{arith}
 use native.Mathlib.Decide.{ℕ_discrete}
-use mathlib.Core.Path.{◌≡◌, refl, sym, ap, ap₂, subst, ◌∙◌}
+use mathlib.Core.Path.{◌≡◌, sym, ap, ap₂, subst, ◌∙◌}
 use mathlib.Core.Logic.{◌⊎◌, inl, inr}
 use mathlib.Core.List.{List}
 use lib.Bits.{bit_and, bit_or, and_zero_l, and_zero_r}
@@ -91,16 +91,6 @@ pub record MetSoFar (old : List ℕ) (i j splits rest : ℕ) (sets : List ℕ) (
   pub there : (k : ℕ) → bit_of k splits ≡ 1 → bit_of k rest ≡ 0 → get_or sets (meeting_at k) 0 ≡ both_at old i k j
   pub all : (p k : ℕ) → bit_of k splits ≡ 1 → bit_of k rest ≡ 0 → bit_of p productions ≡ 0 → bit_of p (both_at old i k j) ≡ 0
 
-pub met-none : (old : List ℕ) (i j splits productions : ℕ) → get_or old splits_at 0 ≡ splits → MetSoFar old i j splits splits old productions
-met-none old i j splits productions e =
-    record {
-      only = (refl, λ s h. refl);
-      noted = e;
-      left = λ k o. o;
-      there = λ k o z. absurd (omega arith);
-      all = λ p k o z. absurd (omega arith);
-    }
-
 pub met-more : {old sets : List ℕ} {i j splits rest productions k rest' here : ℕ}
     → MetSoFar old i j splits rest sets productions → Without rest k rest' → k < bounds → spans_at ≤ length sets → here ≡ both_at sets i k j
     → MetSoFar old i j splits rest' (set sets (meeting_at k) here) (bit_or productions here)
@@ -153,11 +143,11 @@ pub record ServedSoFar (sets : List ℕ) (p like rest served : ℕ) : Type 0 whe
   pub left : (k : ℕ) → bit_of k (get_or sets splits_at 0) ≡ 1 → bit_of k rest ≡ 0 → bit_of k served ≡ 0 → Left sets p like k
   pub only : (k : ℕ) → bit_of k served ≡ 1 → bit_of k (get_or sets splits_at 0) ≡ 1
 
-pub served-none : (sets : List ℕ) (p like : ℕ) → ServedSoFar sets p like (get_or sets splits_at 0) 0
-served-none sets p like =
+pub served-none : {sets : List ℕ} {p like rest : ℕ} → rest ≡ get_or sets splits_at 0 → ServedSoFar sets p like rest 0
+served-none e =
     record {
-      within = λ k o. o;
-      left = λ k o z y. absurd (omega arith);
+      within = λ k o. sym (ap (bit_of k) e) ∙ o;
+      left = λ k o z y. absurd (omega (arith, ap (bit_of k) e));
       only = λ k o. absurd (omega (arith, bit_of-zero k));
     }
 

@@ -1,7 +1,7 @@
 -- The sets by the card alone, told exactly: which productions each has.
 use Rattle.std.specs.Prelude.{ℕ, ◌^◌, ◌≤◌, ◌<◌, ◌≡◌, Bool, ◌||◌, ◌&&◌, List, [], ◌∷◌, eqb, length, get_or, set}
 use Rattle.std.proofs.Math.Option.{some}
-use Rattle.std.specs.Int.Bits.{bit_and, bit_or}
+use Rattle.std.specs.Int.Bits.{bit_or}
 use Rattle.std.proofs.Math.ListN.{get_elem?}
 use Rattle.grammar.specs.Rewriting.{Rule, Lexical, Spine}
 use Rattle.layout.specs.Card.{max_nonterminals, max_words, max_indices}
@@ -30,13 +30,6 @@ with_bit sets at p = set sets at (bit_or (get_or sets at 0) (2 ^ p))
 pub record Joined (r : Rule) (p : ℕ) (old new : List ℕ) : Type 0 where
   pub elsewhere : OnlyClasses old new
   pub exact : (s q : ℕ) → s < class_count → holds_bit q (get_or new s 0) ≡ (holds_bit q (get_or old s 0) || (eqb q p && in_class s r))
-
--- The least nonterminal from `from` on, and below N, that has a production in the set; or N.
-pub record NextLeft (sets : List ℕ) (set from N A : ℕ) : Type 0 where
-  pub later : from ≤ A
-  pub within : A ≤ N
-  pub passed : (B : ℕ) → from ≤ B → B < A → bit_and (get_or sets B 0) set ≡ 0
-  pub has : A < N → bit_and (get_or sets A 0) set ≡ 0 → ⊥
 
 -- A set that has every production of the sets for some words.
 abbrev pub OfWords : List ℕ → ℕ → ℕ → Type 0

@@ -3,17 +3,19 @@ use Prim.Native.Nat.{ℕ, ◌*◌, ◌≤◌, ◌<◌}
 use native.Mathlib.Omega.{arith}
 use mathlib.Core.Path.{◌≡◌, refl, sym, ◌∙◌, ap}
 use mathlib.Core.List.{List, ◌++◌}
-use lib.ListN.{length, take, drop}
-use lib.Seq.{take-length}
+use lib.ListN.{length, drop}
 use borrow.Author.Tests.{lt-ltb, le-ltb}
 use Rattle.sheet.specs.Sheet.{SheetRecord, sheet_bytes, SheetAnswer, refused_at, records_within, output_after}
 use Rattle.sheet.specs.Reading.{Handed}
-use Rattle.sheet.specs.declared.Answer.{Answer}
+use Rattle.std.specs.Prelude.{Result, Ok, Err}
+use Rattle.refusals.specs.declared.Refusal.TheVariants.{OutputRoom}
+use Rattle.sheet.specs.declared.Refused.{Refused}
+use Rattle.sheet.specs.Answered.{refused, answer_number, answer_line, answer_count}
 use Rattle.sheet.proofs.RecordLaws.{sheet-bytes-length}
 
 -- The answer is a, and the output room as a says.
-handed : (records : List SheetRecord) (before after : List ℕ) (r : Answer) (a : SheetAnswer) → records_within records (length before) ≡ a
-    → r.number ≡ a.number → r.line ≡ a.line → r.records ≡ length a.records → after ≡ output_after a.records before
+handed : (records : List SheetRecord) (before after : List ℕ) (r : Result ℕ Refused) (a : SheetAnswer) → records_within records (length before) ≡ a
+    → answer_number r ≡ a.number → answer_line r ≡ a.line → answer_count r ≡ length a.records → after ≡ output_after a.records before
     → Handed records before after r
 handed records before after r a e n l c o =
     record {
@@ -27,15 +29,15 @@ module _ (records : List SheetRecord) (bytes before : List ℕ) (is : bytes ≡ 
   bytes-length : length bytes ≡ 3 * length records
   bytes-length = ap length is ∙ sheet-bytes-length records
 
-  pub hand-short : {r : Answer} → length before < length bytes → (r.number ≡ 33) × (r.line ≡ 0) × (r.records ≡ 0)
-      → Handed records before before r
-  hand-short {r} h (n, l, c) =
-      handed records before before r (refused_at 33 0) (rw (lt-ltb (length before) (3 * length records) (omega (arith, bytes-length)))) n l c refl
+  pub hand-short : length before < length bytes → Handed records before before (Err (refused OutputRoom 0))
+  hand-short h =
+      handed records before before (Err (refused OutputRoom 0)) (refused_at 33 0)
+      (rw (lt-ltb (length before) (3 * length records) (omega (arith, bytes-length)))) refl refl refl refl
 
-  pub hand-all : {after : List ℕ} {r : Answer} → length bytes ≤ length before → (r.number ≡ 0) × (r.line ≡ 0) × (r.records ≡ length records)
-      → after ≡ take (length bytes) bytes ++ drop (length bytes) before → Handed records before after r
-  hand-all {after} {r} h (n, l, c) o =
-      handed records before after r (record { number = 0; line = 0; records = records })
-      (rw (le-ltb (length before) (3 * length records) (omega (arith, bytes-length)))) n l c
-      (o ∙ ap (λ (x : List ℕ). x ++ drop (length bytes) before) (take-length bytes ∙ is)
+  pub hand-all : {after : List ℕ} {count : ℕ} → length bytes ≤ length before → count ≡ length records
+      → after ≡ bytes ++ drop (length bytes) before → Handed records before after (Ok count)
+  hand-all {after} {count} h c o =
+      handed records before after (Ok count) (record { number = 0; line = 0; records = records })
+      (rw (le-ltb (length before) (3 * length records) (omega (arith, bytes-length)))) refl refl c
+      (o ∙ ap (λ (x : List ℕ). x ++ drop (length bytes) before) is
       ∙ ap (λ (n : ℕ). sheet_bytes records ++ drop n before) bytes-length)

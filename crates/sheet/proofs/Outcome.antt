@@ -1,6 +1,6 @@
 -- Each way out of a sheet keeps the whole promise: a refusal before any line, a line that fails, and all lines read.
 -- What the number says of derivations follows from the answer alone, so only the answer and the rooms differ.
-use Prim.Native.Nat.{ℕ, ◌*◌, ◌≤◌}
+use Prim.Native.Nat.{ℕ, ◌*◌}
 use native.Mathlib.Omega.{arith}
 use mathlib.Core.Path.{◌≡◌, refl, sym, ◌∙◌, ap, subst}
 use mathlib.Core.Bool.{true, false}
@@ -8,7 +8,6 @@ use mathlib.Core.List.{List, [], ◌∷◌}
 use mathlib.Core.Option.{none}
 use lib.Dec.{leb}
 use lib.ListN.{length, take}
-use lib.Seq.{length-take-le}
 use borrow.Author.Tests.{ne_eqb}
 use Rattle.grammar.specs.Plan.{PlanStep}
 use Rattle.layout.specs.Refusals.{unless}
@@ -20,10 +19,14 @@ use Rattle.sheet.specs.Sheet.{most_lines, sheet_number, read_number, Course, she
 use Rattle.sheet.specs.Sheet.{records_from, SheetAnswer, refused_at, records_within, sheet_answer}
 use Rattle.sheet.specs.Promise.{EachRead, line_at, Sheet}
 use Rattle.sheet.specs.Promise as promise
-use Rattle.sheet.specs.Reading.{record_room, Ends, HandsOut}
-use Rattle.sheet.specs.declared.Answer.{Answer}
-use Rattle.sheet.specs.declared.Ending.{Ending}
-use Rattle.sheet.specs.declared.Ending.TheVariants.{Read, Failed}
+use Rattle.sheet.specs.declared.sheet_records.Records.{Records}
+use Rattle.sheet.specs.Reading.{Ends, HandsOut}
+use Rattle.std.specs.Prelude.{Result, Ok, Err}
+use Rattle.refusals.specs.declared.Refusal.{Refusal}
+use Rattle.refusals.specs.Number.{number_of}
+use Rattle.refusals.proofs.NumberLaws.{numbered}
+use Rattle.sheet.specs.declared.Refused.{Refused}
+use Rattle.sheet.specs.Answered.{answer_number, answer_line, answer_count}
 use Rattle.sheet.proofs.AnswerLaws.{refused-answer, lines-course, lines-answer, zero-reads-all, refutes, own-room-enough, orders-accepted}
 
 -- The card's number, then 41.
@@ -69,13 +72,14 @@ module _ (card sheet old_chart old_output : List ℕ) where
       }
 
   -- Before any line.
-  pub refused-first : {number line count : ℕ} → (number ≡ 0 → ⊥) → number ≡ sheet_number card sheet → line ≡ 0 → count ≡ 0
-      → Sheet card sheet old_chart old_output old_chart old_output number line count
-  refused-first ne n l c =
+  pub refused-first : (e : Refusal) → number_of e ≡ sheet_number card sheet
+      → Sheet card sheet old_chart old_output old_chart old_output (number_of e) 0 0
+  refused-first e n =
       let m = length old_chart in
-      let no : sheet_number card sheet ≡ 0 → ⊥ = λ z. ne (n ∙ z) in
+      let some = numbered e in
+      let no : sheet_number card sheet ≡ 0 → ⊥ = λ z. omega (arith, n, z, some.0) in
       let is : sheet_course card sheet m ≡ record { read = []; failing = none } = rw (ne_eqb (sheet_number card sheet) 0 no) refl in
-      sheet-is [] (refused_at (sheet_number card sheet) 0) (refused-answer card sheet m (length old_output) [] no) n l c
+      sheet-is [] (refused_at (sheet_number card sheet) 0) (refused-answer card sheet m (length old_output) [] no) n refl refl
       (subst (λ (x : Course). EachRead card x.read []) (sym is) promise.none)
       (subst (λ (x : Course). ChartsAfter card (read_number card m) (tried x) old_chart old_chart) (sym is) refl)
       refl
@@ -83,46 +87,32 @@ module _ (card sheet old_chart old_output : List ℕ) where
   -- After the lines: what holds of their course holds of the sheet's.
   module _ {new_chart : List ℕ} (z : sheet_number card sheet ≡ 0) where
     -- A line fails.
-    pub failed : {records : List ℕ} {ending : Ending} {place n number line count : ℕ} → Ends card sheet old_chart new_chart records ending
-        → ending ≡ Failed place n → (number ≡ n) × (line ≡ place) × (count ≡ 0)
-        → Sheet card sheet old_chart old_output new_chart old_output number line count
-    failed {records} {place = place} {n = n} ended f (e, l, c) =
-        let x = subst (Ends card sheet old_chart new_chart records) f ended in
+    pub failed : {records : Records} {why : Refused} → Ends card sheet old_chart new_chart records (Err why)
+        → Sheet card sheet old_chart old_output new_chart old_output (number_of why.refusal) why.line 0
+    failed {why = why} x =
         let m = length old_chart in
         let k = length old_output in
         let plans = x.plans in
         let course-is = lines-course card sheet m k plans z in
-        sheet-is plans (refused_at n place) (lines-answer card sheet m k plans z ∙ sym (x.answer k)) e l c
+        sheet-is plans (refused_at (number_of why.refusal) why.line) (lines-answer card sheet m k plans z ∙ sym (x.answer k)) refl refl refl
         (subst (λ (y : Course). EachRead card y.read plans) (sym course-is) x.each)
         (subst (λ (y : Course). ChartsAfter card (read_number card m) (tried y) old_chart new_chart) (sym course-is) x.chart)
         refl
 
-    -- All are read.
-    pub all_read : {records new_output : List ℕ} {ending : Ending} {count : ℕ} {r : Answer} → Ends card sheet old_chart new_chart records ending
-        → ending ≡ Read count → HandsOut (take (3 * count) records) count old_output new_output r
-        → Sheet card sheet old_chart old_output new_chart new_output r.number r.line r.records
-    all_read {records} ended f hands =
-        let x = subst (Ends card sheet old_chart new_chart records) f ended in
+    -- All are read, and the bytes of their records are handed out.
+    pub all_read : {records : Records} {bytes new_output : List ℕ} {r : Result ℕ Refused}
+        → Ends card sheet old_chart new_chart records (Ok tt) → bytes ≡ take (3 * records.count) records.room
+        → HandsOut bytes records.count old_output new_output r
+        → Sheet card sheet old_chart old_output new_chart new_output (answer_number r) (answer_line r) (answer_count r)
+    all_read x is hands =
         let m = length old_chart in
         let k = length old_output in
         let plans = x.plans in
-        let (counted, within, room, bytes) = x.kept in
+        let (counted, taken) = x.kept in
         let all = records_from card 0 plans in
-        let h = hands all counted bytes in
+        let h = hands all counted (is ∙ taken) in
         let course-is = lines-course card sheet m k plans z in
         sheet-is plans (records_within all k) (lines-answer card sheet m k plans z ∙ sym (x.answer k)) h.number h.line h.count
         (subst (λ (y : Course). EachRead card y.read plans) (sym course-is) x.each)
         (subst (λ (y : Course). ChartsAfter card (read_number card m) (tried y) old_chart new_chart) (sym course-is) x.chart)
         h.output
-
--- The records of all lines stand at the start of their room.
-module _ {card sheet old_chart new_chart records : List ℕ} {ending : Ending} {count : ℕ} (ended : Ends card sheet old_chart new_chart records ending)
-    (f : ending ≡ Read count) where
-  pub read-few : 3 * count ≤ record_room
-  read-few = let x = subst (Ends card sheet old_chart new_chart records) f ended in x.kept.1
-
-  pub read-within : 3 * count ≤ length records
-  read-within = let x = subst (Ends card sheet old_chart new_chart records) f ended in omega (arith, x.kept.1, x.kept.2)
-
-  pub read_taken : 3 * count ≡ length (take (3 * count) records)
-  read_taken = sym (length-take-le (3 * count) records read-within)

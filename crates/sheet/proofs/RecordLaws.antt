@@ -17,9 +17,13 @@ use Rattle.layout.proofs.Lengths.{pair-length, pairs-bytes-length}
 use Rattle.layout.proofs.Packing.{passing-pairs-few}
 use Rattle.check_pairs.specs.Matching.{Checked}
 use Rattle.check_pairs.specs.Paired.{PairsOf}
-use Rattle.check_pairs.specs.declared.Paired.{Paired}
+use Rattle.std.specs.Prelude.{Result}
+use Rattle.refusals.specs.declared.Refusal.{Refusal}
+use Rattle.refusals.specs.Number.{number_in, count_in}
 use Rattle.sheet.specs.Sheet.{SheetRecord, sheet_record, records_from, sheet_record_bytes, sheet_bytes}
-use Rattle.sheet.specs.Reading.{placed, AddsRecords}
+use Rattle.sheet.specs.Placed.{placed}
+use Rattle.sheet.specs.declared.sheet_records.Records.{Records}
+use Rattle.sheet.specs.Reading.{AddsRecords}
 
 pub placed-pairs : (k : ℕ) (pairs : List Pair) → placed k (pairs_bytes pairs) ≡ sheet_bytes (map (sheet_record k) pairs)
 placed-pairs k [] = refl
@@ -54,7 +58,7 @@ records-one-more card (first ∷ plans) plan k =
     ∙ ap (λ (n : ℕ). (own ++ others) ++ last n) z
 
 -- What Pairs leaves in a room of 22 bytes: all pairs of a plan that passes.
-module _ {card plan before after : List ℕ} {r : Paired} (checked : Checked card plan) (p : PairsOf card plan before after r)
+module _ {card plan before after : List ℕ} {r : Result ℕ Refusal} (checked : Checked card plan) (p : PairsOf card plan before after r)
     (l : length before ≡ 22) where
   abbrev pairs : List Pair
   pairs = plan_pairs card (steps_of plan)
@@ -65,28 +69,29 @@ module _ {card plan before after : List ℕ} {r : Paired} (checked : Checked car
   all-within : pairs_within pairs (length before) ≡ record { number = 0; pairs = pairs }
   all-within = rw (le-ltb (length before) (2 * length pairs) (omega (arith, pairs-few)))
 
-  pub count-pairs : r.count ≡ length pairs
+  pub no-refusal : number_in r ≡ 0
+  no-refusal = p.number ∙ ap (λ (a : PairsAnswer). a.number) all-within
+
+  pub count-pairs : count_in r ≡ length pairs
   count-pairs = p.count ∙ ap (λ (a : PairsAnswer). length a.pairs) all-within
 
-  pairs-taken : take (2 * r.count) after ≡ pairs_bytes pairs
+  pairs-taken : take (2 * (count_in r)) after ≡ pairs_bytes pairs
   pairs-taken =
-      ap (take (2 * r.count)) p.room
-      ∙ ap (λ (a : PairsAnswer). take (2 * r.count) (pairs_bytes a.pairs ++ drop (2 * length a.pairs) before)) all-within
-      ∙ take_at (pairs_bytes pairs) (drop (2 * length pairs) before) (2 * r.count) (omega (arith, pairs-bytes-length pairs, count-pairs))
+      ap (take (2 * (count_in r))) p.room
+      ∙ ap (λ (a : PairsAnswer). take (2 * (count_in r)) (pairs_bytes a.pairs ++ drop (2 * length a.pairs) before)) all-within
+      ∙ take_at (pairs_bytes pairs) (drop (2 * length pairs) before) (2 * (count_in r)) (omega (arith, pairs-bytes-length pairs, count-pairs))
 
-  pub taken-few : length (take (2 * r.count) after) ≡ 2 * r.count
+  pub taken-few : length (take (2 * (count_in r)) after) ≡ 2 * (count_in r)
   taken-few = omega (arith, ap length pairs-taken, pairs-bytes-length pairs, count-pairs)
 
-  pub adds-records : {k : ℕ} {old new : List ℕ} {count at next : ℕ} → Wrote old at (placed k (take (2 * r.count) after)) new next
-      → at ≡ 3 * count → AddsRecords card plan k old count new (count + r.count)
-  adds-records {k} {old} {new} {count} {at} {next} w there =
-      let bytes : placed k (take (2 * r.count) after) ≡ sheet_bytes (map (sheet_record k) pairs) =
+  pub adds-records : {k : ℕ} {old new : Records}
+      → Wrote old.room (3 * old.count) (placed k (take (2 * (count_in r)) after)) new.room (3 * new.count) → AddsRecords card plan k old new
+  adds-records {k} {old} {new} w =
+      let bytes : placed k (take (2 * (count_in r)) after) ≡ sheet_bytes (map (sheet_record k) pairs) =
       ap (placed k) pairs-taken ∙ placed-pairs k pairs in
       let w' = rw bytes at w in
-      let ends : next ≡ 3 * (count + r.count) =
-      omega (arith, there, w'.ends, sheet-bytes-length (map (sheet_record k) pairs), length-map pairs (sheet_record k), count-pairs) in
       record {
-        total = ap (λ (n : ℕ). count + n) count-pairs;
+        total = omega (arith, w'.ends, sheet-bytes-length (map (sheet_record k) pairs), length-map pairs (sheet_record k));
         few = pairs-few;
-        wrote = rw (there, ends) at w';
+        wrote = w';
       }

@@ -1,8 +1,10 @@
 // The records of a sheet: three bytes for each pair of a line, its line's place first.
-ghost use Rattle.std.specs.Prelude.{◌≡◌, ◌*◌, ◌+◌, ◌≤◌, length};
+ghost use Rattle.std.specs.Prelude.{◌≡◌, ◌*◌, ◌+◌, ◌≤◌, length, take};
 ghost use Rattle.layout.specs.Written.{Wrote};
 ghost use Rattle.check_pairs.specs.Matching.{Checked};
-ghost use Rattle.sheet.specs.Reading.{placed, AddsRecords, RoomForLine};
+ghost use Rattle.sheet.specs.Placed.{placed, record_room};
+
+use card::Card;
 
 // So many pairs a line has at most; it is a theorem that none has more.
 const MOST_PAIRS: usize = 11;
@@ -10,40 +12,57 @@ const MOST_PAIRS: usize = 11;
 const PAIR_ROOM: usize = 2 * MOST_PAIRS;
 
 // Room for the records of 64 lines.
-pub const RECORD_ROOM: usize = 64 * 3 * MOST_PAIRS;
+const RECORD_ROOM: usize = 64 * 3 * MOST_PAIRS;
 
-// A record for each two bytes of pairs, from a place of the room on: where they end.
-fn put_records(place: u8, pairs: &[u8], records: &mut [u8], at: usize) -> usize
-    requires { 2 * at + 3 * length pairs.now ≤ 2 * length records.old }
-    ensures { Wrote records.old at (placed place pairs.now) records.new result }
-{
-    let mut here = at;
-    let mut p = 0;
-    while p + 2 <= pairs.len() {
-        records[here] = place;
-        records[here + 1] = pairs[p];
-        records[here + 2] = pairs[p + 1];
-        here += 3;
-        p += 2;
-    }
-    here
+// The records so far, one after the other from the start of their room.
+#[derive(Drop)]
+pub struct Records {
+    pub room: [u8; RECORD_ROOM],
+    pub count: usize,
+    ghost within: { 3 * count ≤ record_room },
 }
 
-// The records of a plan that passes Check, behind the first `count`: how many there are then.
-pub fn add_records(
-    card: &[u8],
-    plan: &[u8],
-    place: u8,
-    records: &mut [u8; RECORD_ROOM],
-    count: usize,
-) -> usize
-    requires { Checked card.now plan.now × RoomForLine count records.old }
-    ensures { AddsRecords card.now plan.now place records.old count records.new result }
-{
-    let mut pairs = [0u8; PAIR_ROOM];
-    let paired = check_pairs::pairs_of(card, plan, &mut pairs);
-    let few = paired.count;
-    let size = 2 * few;
-    put_records(place, &pairs[..size], records, 3 * count);
-    count + few
+impl Records {
+    ghost use Rattle.sheet.specs.Reading.{RoomForLine, AddsRecords};
+
+    pub fn new() -> Records
+        ensures { result.count ≡ 0 }
+    {
+        Records {
+            room: [0; RECORD_ROOM],
+            count: 0,
+        }
+    }
+
+    // The bytes of the records.
+    pub fn bytes(&self) -> &[u8]
+        ensures { result.now ≡ take (3 * self.now.count) self.now.room }
+    {
+        &self.room[..3 * self.count]
+    }
+
+    // A record for each two bytes of pairs. Not by `chunks_exact`, which divides: the archive has no division.
+    fn put(&mut self, place: u8, pairs: &[u8])
+        requires { 6 * self.old.count + 3 * length pairs.now ≤ 2 * record_room }
+        ensures { Wrote self.old.room (3 * self.old.count) (placed place pairs.now) self.new.room (3 * self.new.count) }
+    {
+        let mut rest = pairs;
+        while let [first, second, others @ ..] = rest {
+            let here = 3 * self.count;
+            self.room[here..here + 3].copy_from_slice(&[place, *first, *second]);
+            self.count += 1;
+            rest = others;
+        }
+    }
+
+    // The records of a plan that passes Check, behind those that are there.
+    pub fn add(&mut self, card: Card, plan: &[u8], place: u8)
+        requires { Checked card.bytes.now plan.now × RoomForLine self.old }
+        ensures { AddsRecords card.entry.bytes.now plan.now place self.old self.new }
+    {
+        let mut pairs = [0u8; PAIR_ROOM];
+        // The room is long enough for the pairs of any plan that passes.
+        let count = check_pairs::pairs_of(card, plan, &mut pairs).unwrap();
+        self.put(place, &pairs[..2 * count]);
+    }
 }

@@ -2,37 +2,51 @@
 #![tactic(auto)]
 
 ghost use Rattle.std.specs.Prelude.{◌≡◌, ◌<◌, leb, length};
+ghost use Rattle.std.specs.Iterator.{YieldsFirstRef, item_count};
 ghost use Rattle.split.specs.Lines.{lines_of, LineEnds};
+ghost use Rattle.split.specs.Left.{lines_left};
 
 // Where the line that starts at a place ends: at the next hex 0A, or else at the end of the input.
-#[tactic(auto, using(crate::proofs::LineLaws::passed_more, crate::proofs::LineLaws::ended_there, crate::proofs::LineLaws::ended_last))]
 pub fn line_end(input: &[u8], at: usize) -> usize
     requires { at < length input.now }
     ensures { LineEnds input.now at result }
 {
-    let mut i = at;
-    while i < input.len() {
-        if input[i] == b'\n' {
-            return i;
+    at + input[at..].iter().take_while(|b| **b != b'\n').count()
+}
+
+// The lines of what is left of an input.
+#[derive(Drop)]
+pub struct LinesLeft<'a> {
+    pub rest: &'a [u8],
+}
+
+impl<'a> Iterator for LinesLeft<'a> {
+    type Item = &'a [u8];
+
+    ghost next_gives = { YieldsFirstRef lines_left };
+
+    ghost remaining = { item_count lines_left };
+
+    fn next(&mut self) -> Option<&'a [u8]> {
+        let rest = self.rest;
+        if rest.is_empty() {
+            return None;
         }
-        i += 1;
+        let end = line_end(rest, 0);
+        self.rest = &rest[rest.len().min(end + 1)..];
+        Some(&rest[..end])
     }
-    i
+}
+
+pub fn lines(input: &[u8]) -> LinesLeft<'_>
+    ensures { lines_left result ≡ lines_of input.now }
+{
+    LinesLeft { rest: input }
 }
 
 // Has the input at most so many lines?
-#[tactic(auto, using(crate::proofs::LineLaws::too_many))]
 pub fn at_most(input: &[u8], most: usize) -> bool
     ensures { result ≡ leb (length (lines_of input.now)) most }
 {
-    let mut count = 0;
-    let mut next = 0;
-    while next < input.len() {
-        if count == most {
-            return false;
-        }
-        next = line_end(input, next) + 1;
-        count += 1;
-    }
-    true
+    lines(input).nth(most).is_none()
 }

@@ -6,6 +6,7 @@ use mathlib.Core.Path.{◌≡◌, refl, sym, ◌∙◌, ap, subst}
 use mathlib.Core.Bool.{Bool, true, false, cond}
 use mathlib.Core.List.{List, [], ◌∷◌, append-nil}
 use lib.Dec.{eqb}
+use Rattle.std.specs.Prelude.{Option, Some, None}
 use borrow.Author.Tests.{eq-eqb, ne_eqb}
 use Rattle.grammar.specs.Lists.{concat_map}
 use Rattle.grammar.specs.Items.{Foot, bare, foot}
@@ -22,7 +23,7 @@ use Rattle.records.specs.declared.record.OpenCell.{OpenCell}
 use Rattle.records.specs.declared.record.Foot as declared
 use Rattle.records.specs.declared.cells.Range.{Range}
 use Rattle.records.specs.Room.{as_foot, foot_there, foot_fields, chart_in, FootFits, Writable, foot_number, number_there, Working, Added}
-use Rattle.records.specs.Cells.{cell_at, range_in, bare_in, SpanFits, Indexed}
+use Rattle.records.specs.Cells.{number_of, cell_at, range_in, bare_in, SpanFits, Indexed}
 use Rattle.records.specs.Cover.{CellRange}
 use Rattle.records.proofs.RoomLaws.{chart-length, foot-at, number-there}
 use Rattle.records.proofs.TableLaws.{number-cell}
@@ -50,8 +51,8 @@ module _ {n N : ℕ} (chart : List ℕ) (base : ℕ) {cells : List ℕ} (t : Ind
   pub to_below : R.to ≤ base
   to_below = subst (λ (R : Range). R.to ≤ base) (sym r) (omega (arith, t.to_within at, chart-length chart base))
 
-  pub bare-below : R.bare ≤ base
-  bare-below = subst (λ (R : Range). R.bare ≤ base) (sym r) (omega (arith, t.bare_within at, chart-length chart base))
+  pub bare-below : number_of R.bare ≤ base
+  bare-below = subst (λ (R : Range). number_of R.bare ≤ base) (sym r) (omega (arith, t.bare_within at, chart-length chart base))
 
 module _ {n N : ℕ} (chart : List ℕ) (base : ℕ) {cells : List ℕ} (t : Indexed n N (chart_in chart base) cells) {B p q : ℕ}
     (s : SpanFits n N B p q) {at : ℕ} (e : at ≡ cell_at N B p q) {R : Range} (r : R ≡ range_in cells at) where
@@ -169,14 +170,12 @@ module _ (b : List Record) (D k m A i j p x : ℕ) where
     by-give {g = g} e = ranged (given_from b A i j p x g) R.from (R.to - R.from) t ∙ same-action e
 
 -- The side's bare item, if there is one.
-module _ (f : ℕ → List Record) {l : List ℕ} (m : ℕ) (t : l ≡ bare_in m) where
-  pub no_bare : m ≡ 0 → concat_map f l ≡ []
+module _ (f : ℕ → List Record) {l : List ℕ} {o : Option ℕ} (t : l ≡ bare_in o) where
+  pub no_bare : o ≡ None → concat_map f l ≡ []
   no_bare e = ap (concat_map f) (t ∙ ap bare_in e)
 
-  pub one-bare : (m ≡ 0 → ⊥) → concat_map f l ≡ f (m - 1)
-  one-bare d =
-      let e : m ≡ suc (m - 1) = omega arith in
-      ap (concat_map f) (t ∙ ap bare_in e) ∙ append-nil (f (m - 1))
+  pub one-bare : {m : ℕ} → o ≡ Some m → concat_map f l ≡ f m
+  one-bare {m} e = ap (concat_map f) (t ∙ ap bare_in e) ∙ append-nil (f m)
 
 -- A production by its shape: no record from a word or under another left side, and else those of the two elements that meet at k: the
 -- side before k and the dependent after it, or the other way round. Where the production fits, they do.

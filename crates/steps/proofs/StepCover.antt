@@ -10,6 +10,7 @@ use mathlib.Core.Bool.{true}
 use mathlib.Core.List.Memᴰ
 use mathlib.Core.List.{List, [], ◌∷◌, map, Memᴰ}
 use mathlib.Core.Option.{some}
+use Rattle.std.specs.Prelude.{Option, Some, None}
 use lib.ListN.{length}
 use Rattle.grammar.specs.Items.{Foot}
 use Rattle.grammar.specs.ItemList.{Item, item}
@@ -23,14 +24,14 @@ use Rattle.chart_model.proofs.FillModel.{in-counted}
 use Rattle.records.specs.declared.record.OpenCell.{OpenCell}
 use Rattle.records.specs.Room.{chart_in, Working, Added}
 use Rattle.records.specs.Cells.{spans, cell_at, SpanFits, range_in, cover_in, with_cover, covered_in, noted_anew}
-use Rattle.records.specs.Cover.{CoversIn, Covering, CellRange, Advanced}
+use Rattle.records.specs.Cover.{CoversIn, Covering, CellRange}
 use Rattle.records.specs.Filling.{begun_with, AddedTo, AdvancedTo, Filling}
 use Rattle.records.proofs.TableLaws.{cell_below, spans-more}
 use Rattle.records.proofs.CellsLaws.{cover-length, cover-range, noted-length, noted-range, indexed-ranges}
 use Rattle.records.proofs.AddLaws.{state-fits}
 use Rattle.records.proofs.CoverLaws.{chart-wider, each-wider, each_in, each-known, place-has}
 use Rattle.records.proofs.CoverLaws.{covering-wider, covering-below, covered-sound, covering-note, covering-anew}
-use Rattle.steps.proofs.StepLaws.{added-as, added_none, Looped, loop-start, loop-works, loop-kept, loop-end, loop-turn, loop-over}
+use Rattle.steps.proofs.StepLaws.{added-as, Looped, loop-start, loop-works, loop-kept, loop-end, loop-turn, loop-over, nothing-added, added-to-as}
 
 counted-in : (k m x : ℕ) → k ≤ x → x < k + m → Memᴰ x (counted k m)
 counted-in k zero x a b = absurd (omega arith)
@@ -95,12 +96,16 @@ module _ {n N room A i j : ℕ} where
         works = λ l. w;
       }
 
-  -- The records to add may be written otherwise.
-  pub advanced-as : {rs ss : List Record} {old old_marks old_cells new new_marks cells : List ℕ} {base count after : ℕ} → rs ≡ ss
-      → Advanced n N room A i j base rs old old_marks old_cells count new new_marks cells after
-      → Advanced n N room A i j base ss old old_marks old_cells count new new_marks cells after
-  advanced-as e a =
-      record { added = added-as e a.added; same_cells = a.same_cells; same_ranges = a.same_ranges; covering = a.covering }
+-- The records to add may be written otherwise.
+pub advanced-as : {cell : OpenCell} {rs ss : List Record} {old old_marks old_cells new new_marks cells : List ℕ} {count : ℕ} {after : Option ℕ}
+    → rs ≡ ss → AdvancedTo cell rs old old_marks old_cells count new new_marks cells after
+    → AdvancedTo cell ss old old_marks old_cells count new new_marks cells after
+advanced-as e a =
+    let s = a.advanced in
+    record {
+      advanced = record { added = added-as e s.added; same_cells = s.same_cells; same_ranges = s.same_ranges; covering = s.covering };
+      within = a.within;
+    }
 
 module _ {cell : OpenCell} {chart marks cells : List ℕ} {count : ℕ} (h : Filling cell chart marks cells count) where
   abbrev n : ℕ
@@ -119,10 +124,18 @@ module _ {cell : OpenCell} {chart marks cells : List ℕ} {count : ℕ} (h : Fil
   wider = chart-wider chart cell.base count h.begun
 
   -- Where the table stays as it is it stays right, for the chart only grows.
-  pub advanced-kept : {rs : List Record} {new new_marks : List ℕ} {after : ℕ} → AddedTo cell rs chart marks count new new_marks after
+  pub advanced-kept : {rs : List Record} {new new_marks : List ℕ} {after : Option ℕ} → AddedTo cell rs chart marks count new new_marks after
       → AdvancedTo cell rs chart marks cells count new new_marks cells after
   advanced-kept a =
-      record { added = a; same_cells = refl; same_ranges = λ at. refl; covering = λ l. covering-wider h.covering (added-wider a l) }
+      record {
+        advanced = record {
+          added = a.added;
+          same_cells = refl;
+          same_ranges = λ at. refl;
+          covering = λ l. covering-wider h.covering (added-wider a.added l);
+        };
+        within = a.within;
+      }
 
   -- With another cell, by its number and by the range of its records.
   module _ {at from to : ℕ} (d : CellRange n N b at from to) where
@@ -160,51 +173,61 @@ module _ {cell : OpenCell} {chart marks cells : List ℕ} {count : ℕ} (h : Fil
           covering = rw (e, h.numbered, d.number) (covering-anew h.covering h.inside wider d.fits);
         }
 
-    pub advanced-looked : {rs : List Record} {seen new new_marks new_cells : List ℕ} {after : ℕ} → seen ≡ noted_anew cells cell.number at
+    pub advanced-looked : {rs : List Record} {seen new new_marks new_cells : List ℕ} {after : Option ℕ} → seen ≡ noted_anew cells cell.number at
         → AdvancedTo cell rs chart marks seen count new new_marks new_cells after
         → AdvancedTo cell rs chart marks cells count new new_marks new_cells after
     advanced-looked e a =
+        let s = a.advanced in
         record {
-          added = a.added;
-          same_cells = a.same_cells ∙ ap length e ∙ noted-length cells cell.number at;
-          same_ranges = λ x. a.same_ranges x ∙ ap (λ (l : List ℕ). range_in l x) e ∙ noted-range cells cell.number at x;
-          covering = a.covering;
+          advanced = record {
+            added = s.added;
+            same_cells = s.same_cells ∙ ap length e ∙ noted-length cells cell.number at;
+            same_ranges = λ x. s.same_ranges x ∙ ap (λ (l : List ℕ). range_in l x) e ∙ noted-range cells cell.number at x;
+            covering = s.covering;
+          };
+          within = a.within;
         }
 
     -- No place to add from; a cell that is passed over; and one whose feet are all taken over.
     module _ (f : ℕ → List Record) (one : (x : ℕ) → map item_of (f x) ≡ item cell.left cell.from cell.to (foot_at b x) ∷ []) where
-      pub advanced-none : to ≤ from → AdvancedTo cell (flat_up f from (to - from)) chart marks cells count chart marks cells count
-      advanced-none l = advanced-kept (added-as (ap (flat_up f from) no-places) (added_none h.works))
+      pub advanced-none : to ≤ from → AdvancedTo cell (flat_up f from (to - from)) chart marks cells count chart marks cells (Some count)
+      advanced-none l = advanced-kept (added-to-as (ap (flat_up f from) no-places) (nothing-added h.works))
         where
           no-places : 0 ≡ to - from
           no-places = omega arith
 
       pub passed_over : {new_cells : List ℕ} → covered_in cells cell.number at ≡ true → new_cells ≡ noted_anew cells cell.number at
-          → AdvancedTo cell (flat_up f from (to - from)) chart marks cells count chart marks new_cells count
+          → AdvancedTo cell (flat_up f from (to - from)) chart marks cells count chart marks new_cells (Some count)
       passed_over {new_cells} t e =
           record {
-            added =
-                added-known (flat_up f from (to - from))
-                (all_known b cell.left cell.from cell.to f one d.symbol d.start d.end from (to - from) d.stands c
-                (covered-sound h.covering h.inside wider d.fits test)) h.works;
-            same_cells = ap length e ∙ noted-length cells cell.number at;
-            same_ranges = λ x. ap (λ (l : List ℕ). range_in l x) e ∙ noted-range cells cell.number at x;
-            covering = λ _. (looked-at e).covering;
+            advanced = record {
+              added =
+                  added-known (flat_up f from (to - from))
+                  (all_known b cell.left cell.from cell.to f one d.symbol d.start d.end from (to - from) d.stands c
+                  (covered-sound h.covering h.inside wider d.fits test)) h.works;
+              same_cells = ap length e ∙ noted-length cells cell.number at;
+              same_ranges = λ x. ap (λ (l : List ℕ). range_in l x) e ∙ noted-range cells cell.number at x;
+              covering = λ _. (looked-at e).covering;
+            };
+            within = h.works.count_fits;
           }
         where
           test : covered_in cells (cell_at N cell.left cell.from cell.to) (cell_at N d.symbol d.start d.end) ≡ true
           test = rw (sym h.numbered, sym d.number) t
 
       pub taken-over : {new new_marks new_cells : List ℕ} {after : ℕ} → from < to
-          → AddedTo cell (flat_up f from (to - from)) chart marks count new new_marks after → after ≤ cell.room
+          → AddedTo cell (flat_up f from (to - from)) chart marks count new new_marks (Some after)
           → new_cells ≡ with_cover cells at (cell.number + 1)
-          → AdvancedTo cell (flat_up f from (to - from)) chart marks cells count new new_marks new_cells after
-      taken-over {new} {new_marks} {new_cells} {after} l a u e =
+          → AdvancedTo cell (flat_up f from (to - from)) chart marks cells count new new_marks new_cells (Some after)
+      taken-over {new} {new_marks} {new_cells} {after} l a e =
           record {
-            added = a;
-            same_cells = ap length e ∙ cover-length cells at (cell.number + 1);
-            same_ranges = λ x. ap (λ (l : List ℕ). range_in l x) e ∙ cover-range cells at (cell.number + 1) x;
-            covering = λ _. noted;
+            advanced = record {
+              added = a.added;
+              same_cells = ap length e ∙ cover-length cells at (cell.number + 1);
+              same_ranges = λ x. ap (λ (l : List ℕ). range_in l x) e ∙ cover-range cells at (cell.number + 1) x;
+              covering = λ _. noted;
+            };
+            within = a.within;
           }
         where
           some-there : places b d.symbol d.start d.end ≡ [] → ⊥
@@ -214,11 +237,11 @@ module _ {cell : OpenCell} {chart marks cells : List ℕ} {count : ℕ} (h : Fil
 
           over : CoversIn b (chart_in new after) cell.left cell.from cell.to d.symbol d.start d.end
           over = all_there b cell.left cell.from cell.to f one d.symbol d.start d.end from (to - from) d.stands
-              cell.room c (model-fits a u)
+              cell.room c (model-fits a.added a.within)
 
           noted : Covering n N cell.left cell.from cell.to b (chart_in new after) new_cells
           noted =
-              rw (e, h.numbered, d.number, add-one) (covering-note ((advanced-kept a).covering u) d.fits over some-there)
+              rw (e, h.numbered, d.number, add-one) (covering-note ((advanced-kept a).advanced.covering a.within) d.fits over some-there)
 
 -- A loop whose calls pass cells over: as one whose calls add, and the table has the ranges that it had and is right at each turn. F makes the
 -- candidates of a place from the records that stood when the cell was begun.
@@ -248,13 +271,16 @@ module _ {cell : OpenCell} {F : List Record → ℕ → List Record} {from to : 
 
     -- The loop ends at `to`.
     pub advance-end : to ≤ y
-        → AdvancedTo cell (flat_up (F (begun_with cell old)) from (to - from)) old old_marks old_cells count mid mid_marks cells total
+        → AdvancedTo cell (flat_up (F (begun_with cell old)) from (to - from)) old old_marks old_cells count mid mid_marks cells (Some total)
     advance-end h =
         record {
-          added = loop-end l.looped h;
-          same_cells = l.same_cells;
-          same_ranges = l.same_ranges;
-          covering = λ _. l.covering;
+          advanced = record {
+            added = loop-end l.looped h;
+            same_cells = l.same_cells;
+            same_ranges = l.same_ranges;
+            covering = λ _. l.covering;
+          };
+          within = l.looped.fits;
         }
 
     -- A place whose items are all there may be left out, and so may one that has no candidates.
@@ -291,30 +317,33 @@ module _ {cell : OpenCell} {F : List Record → ℕ → List Record} {from to : 
             covering = rw same-begun l.covering;
           }
 
-      module _ {new new_marks new_cells : List ℕ} {after : ℕ} (u : y < to)
-          (a : AdvancedTo cell (F (begun_with cell mid) y) mid mid_marks cells total new new_marks new_cells after) where
-        one-added : AddedTo cell (F (begun_with cell old) y) mid mid_marks total new new_marks after
-        one-added = added-as (ap (λ (b : List Record). F b y) same-begun) a.added
-
-        pub advance-turn : after ≤ cell.room
+      module _ {new new_marks new_cells : List ℕ} (u : y < to) where
+        -- The call answers a count.
+        pub advance-turn : {after : ℕ}
+            → AdvancedTo cell (F (begun_with cell mid) y) mid mid_marks cells total new new_marks new_cells (Some after)
             → Advancing cell F from to old old_marks old_cells count new new_marks new_cells (y + 1) after
-        advance-turn fits =
+        advance-turn a =
+            let s = a.advanced in
             record {
-              looped = loop-turn l.looped u one-added fits;
-              same_cells = a.same_cells ∙ l.same_cells;
-              same_ranges = λ at. a.same_ranges at ∙ l.same_ranges at;
-              covering = rw (sym same-begun) (a.covering fits);
+              looped = loop-turn l.looped u (added-as (ap (λ (b : List Record). F b y) same-begun) s.added) a.within;
+              same_cells = s.same_cells ∙ l.same_cells;
+              same_ranges = λ at. s.same_ranges at ∙ l.same_ranges at;
+              covering = rw (sym same-begun) (s.covering a.within);
             }
 
         -- The last turn, where the room is full.
-        pub advance-over : cell.room < after
-            → AdvancedTo cell (flat_up (F (begun_with cell old)) from (to - from)) old old_marks old_cells count new new_marks new_cells after
-        advance-over full =
+        pub advance-over : AdvancedTo cell (F (begun_with cell mid) y) mid mid_marks cells total new new_marks new_cells None
+            → AdvancedTo cell (flat_up (F (begun_with cell old)) from (to - from)) old old_marks old_cells count new new_marks new_cells None
+        advance-over a =
+            let s = a.advanced in
             record {
-              added = loop-over l.looped u one-added full;
-              same_cells = a.same_cells ∙ l.same_cells;
-              same_ranges = λ at. a.same_ranges at ∙ l.same_ranges at;
-              covering = λ v. absurd (omega arith);
+              advanced = record {
+                added = loop-over l.looped u (added-as (ap (λ (b : List Record). F b y) same-begun) s.added) (omega arith);
+                same_cells = s.same_cells ∙ l.same_cells;
+                same_ranges = λ at. s.same_ranges at ∙ l.same_ranges at;
+                covering = λ v. absurd (omega arith);
+              };
+              within = tt;
             }
 
   -- Places whose items are all there, up to another place and up to the end; and places with no candidates.
@@ -334,7 +363,7 @@ module _ {cell : OpenCell} {F : List Record → ℕ → List Record} {from to : 
     advance-past p u v known = advance-at (pass (p - y) (omega arith) (λ q a b. known q a (omega arith))) (omega arith)
 
     pub advance-rest-known : ((q : ℕ) → y ≤ q → q < to → Known (chart_in mid total) (F (begun_with cell old) q))
-        → AdvancedTo cell (flat_up (F (begun_with cell old)) from (to - from)) old old_marks old_cells count mid mid_marks cells total
+        → AdvancedTo cell (flat_up (F (begun_with cell old)) from (to - from)) old old_marks old_cells count mid mid_marks cells (Some total)
     advance-rest-known known = elim (dec_le y to) [
       | yes h ↦ advance-end (advance-past to h (le_refl to) known) (le_refl to)
       | no d ↦ advance-end l (omega arith)
@@ -345,5 +374,5 @@ module _ {cell : OpenCell} {F : List Record → ℕ → List Record} {from to : 
     advance-to p u v empty = advance-past p u v (λ q a b. known-none (chart_in mid total) (empty q a b))
 
     pub advance-rest : ((q : ℕ) → y ≤ q → q < to → F (begun_with cell old) q ≡ [])
-        → AdvancedTo cell (flat_up (F (begun_with cell old)) from (to - from)) old old_marks old_cells count mid mid_marks cells total
+        → AdvancedTo cell (flat_up (F (begun_with cell old)) from (to - from)) old old_marks old_cells count mid mid_marks cells (Some total)
     advance-rest empty = advance-rest-known (λ q a b. known-none (chart_in mid total) (empty q a b))

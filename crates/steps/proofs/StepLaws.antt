@@ -6,20 +6,21 @@ use native.Mathlib.Omega.{arith}
 use mathlib.Core.Path.{◌≡◌, refl, sym, ◌∙◌, ap, subst}
 use mathlib.Core.List.{List, [], ◌∷◌, ◌++◌, append-nil, append_assoc}
 use mathlib.Core.Option.{none, some}
+use Rattle.std.specs.Prelude.{Option, Some, None}
 use lib.ListN.{length, drop}
 use lib.Seq.{drop-drop}
 use Rattle.grammar.specs.Lists.{concat_map}
-use Rattle.grammar.specs.Items.{Foot}
-use Rattle.grammar.specs.ItemList.{item}
-use Rattle.grammar.specs.Chart.{Record, recorded}
+use Rattle.grammar.specs.Chart.{Record}
 use Rattle.layout.specs.Bytes.{counted}
 use Rattle.chart_model.specs.Build.{flat_up, foot_at, add_each}
 use Rattle.chart_model.proofs.BuildLaws.{flat_up-more, add_each-append, add_each-none}
 use Rattle.records.specs.declared.record.OpenCell.{OpenCell}
 use Rattle.records.specs.declared.record.Foot as declared
+use Rattle.records.specs.declared.record.Origin.{Origin}
 use Rattle.records.specs.declared.cells.Range.{Range}
-use Rattle.records.specs.Room.{foot_there, foot_fields, chart_in, state_of, FootFits, number_there, Working, Added}
+use Rattle.records.specs.Room.{record_from, foot_there, foot_fields, chart_in, state_of, FootFits, number_there, Working, Added}
 use Rattle.records.specs.Filling.{begun_with, WorksOn, AddedTo, FootGiven, Adding}
+use Rattle.steps.specs.Candidates.{reached}
 use Rattle.records.proofs.AddLaws.{state-fits, state-over}
 use Rattle.records.proofs.RoomLaws.{take_less, chart-length, chart-kept-below, foot-at, number-there, writable-there}
 
@@ -174,6 +175,30 @@ module _ {n N room A i j : ℕ} {f : ℕ → List Record} {from to : ℕ} where
           all : y + 1 - from + left ≡ to - from
           all = omega arith
 
+-- The same as the functions answer it: no candidates; a turn whose call answers a count; one whose call found the room full, and so does the
+-- function; and the end.
+module _ {cell : OpenCell} where
+  pub nothing-added : {chart marks : List ℕ} {count : ℕ} → WorksOn cell chart marks count
+      → AddedTo cell [] chart marks count chart marks (Some count)
+  nothing-added w = record { added = added_none w; within = w.count_fits }
+
+  pub added-to-as : {rs ss : List Record} {old old_marks new new_marks : List ℕ} {count : ℕ} {after : Option ℕ} → rs ≡ ss
+      → AddedTo cell rs old old_marks count new new_marks after → AddedTo cell ss old old_marks count new new_marks after
+  added-to-as e a = record { added = added-as e a.added; within = a.within }
+
+  module _ {f : ℕ → List Record} {from to : ℕ} {old old_marks mid mid_marks : List ℕ} {count y total : ℕ}
+      (l : Looped cell.words cell.symbols cell.room cell.left cell.from cell.to f from to old old_marks count mid mid_marks y total) where
+    pub loop-next : {new new_marks : List ℕ} {after : ℕ} → y < to → AddedTo cell (f y) mid mid_marks total new new_marks (Some after)
+        → Looped cell.words cell.symbols cell.room cell.left cell.from cell.to f from to old old_marks count new new_marks (y + 1) after
+    loop-next h b = loop-turn l h b.added b.within
+
+    pub loop-full : {new new_marks : List ℕ} → y < to → AddedTo cell (f y) mid mid_marks total new new_marks None
+        → AddedTo cell (flat_up f from (to - from)) old old_marks count new new_marks None
+    loop-full h b = record { added = loop-over l h b.added (omega arith); within = tt }
+
+    pub loop-done : to ≤ y → AddedTo cell (flat_up f from (to - from)) old old_marks count mid mid_marks (Some total)
+    loop-done h = record { added = loop-end l h; within = l.fits }
+
 -- A record below the count: its foot fits, and is the one that it had when the cell was begun.
 module _ {n N room A i j : ℕ} where
   pub foot-fits : {chart marks : List ℕ} {count : ℕ} (y : ℕ) → Working n N room A i j chart marks count → y < count
@@ -220,10 +245,9 @@ module _ {cell : OpenCell} {range : Range} {old old_marks : List ℕ} {count : �
       → WorksOn cell mid mid_marks total × FootGiven cell foot number
   turn-asks e d = (loop-works l, read_again cell y (loop-works l) below e d)
 
-  pub turn-adds : {new new_marks : List ℕ} {after : ℕ} {φ : Foot} {p x d z : ℕ} → φ ≡ foot_there mid y
-      → AddedTo cell (recorded (item cell.left cell.from cell.to φ) p x d z ∷ []) mid mid_marks total new new_marks after
-      → AddedTo cell (recorded (item cell.left cell.from cell.to (foot_at (begun_with cell old) y)) p x d z ∷ [])
-      mid mid_marks total new new_marks after
-  turn-adds {p = p} {x} {d} {z} e b =
+  pub turn-adds : (O : ℕ → Origin) {new new_marks : List ℕ} {after : Option ℕ} {foot : declared.Foot} {o : Origin}
+      → foot ≡ foot_fields mid y → o ≡ O y → AddedTo cell (record_from cell foot o ∷ []) mid mid_marks total new new_marks after
+      → AddedTo cell (reached cell O (begun_with cell old) y) mid mid_marks total new new_marks after
+  turn-adds O e d b =
       let kept = foot-kept cell.base y (omega (arith, q.below)) q.begun l.sofar in
-      added-as (ap (λ (φ : Foot). recorded (item cell.left cell.from cell.to φ) p x d z ∷ []) (e ∙ sym kept)) b
+      added-to-as (cc) b

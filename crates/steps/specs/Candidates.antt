@@ -1,13 +1,15 @@
 -- The candidates of a step, as the model has them, in terms of the structs that the functions pass on. b is the chart when the cell was begun.
-use Rattle.std.specs.Prelude.{ℕ, List}
+use Rattle.std.specs.Prelude.{ℕ, List, [], ◌∷◌}
 use Rattle.grammar.specs.Lists.{concat_map}
 use Rattle.grammar.specs.Items.{Foot}
-use Rattle.grammar.specs.Chart.{Record}
+use Rattle.grammar.specs.ItemList.{item}
+use Rattle.grammar.specs.Chart.{Record, recorded, nowhere}
 use Rattle.card.specs.Productions.{action_from, rule_from}
 use Rattle.card.specs.declared.Action.{Action}
 use Rattle.card.specs.declared.Production.{Production}
-use Rattle.chart_model.specs.Build.{bare_places, taken_from, kept_from, continued, given_from, by_action, by_rule}
+use Rattle.chart_model.specs.Build.{foot_at, bare_places, taken_from, kept_from, continued, given_from, by_action, by_rule}
 use Rattle.records.specs.declared.record.OpenCell.{OpenCell}
+use Rattle.records.specs.declared.record.Origin.{Origin}
 use Rattle.records.specs.Cells.{SpanFits}
 use Rattle.steps.specs.declared.element.Element.{Element}
 use Rattle.steps.specs.declared.element.Elements.{Elements}
@@ -27,6 +29,17 @@ continues cell side y b z = continued b cell.left cell.from cell.to side.product
 
 abbrev pub gives : OpenCell → Side → ℕ → List Record → ℕ → List Record
 gives cell side g b y = given_from b cell.left cell.from cell.to side.production side.position g y
+
+-- A keep's and a give's records are made alike: each has the foot of the record at a position, and the origin that is told for that position.
+abbrev pub reached : OpenCell → (ℕ → Origin) → List Record → ℕ → List Record
+reached cell o b m =
+    recorded (item cell.left cell.from cell.to (foot_at b m)) (o m).production (o m).side (o m).dependent (o m).continuation ∷ []
+
+abbrev pub kept_origin : Side → ℕ → Origin
+kept_origin side y = record { production = side.production; side = side.position; dependent = y; continuation = nowhere }
+
+abbrev pub continued_origin : Side → ℕ → ℕ → Origin
+continued_origin side y z = record { production = side.production; side = side.position; dependent = y; continuation = z }
 
 -- Of a dependent's cell; of the two elements; and of a production at a split.
 abbrev pub acts : OpenCell → Side → Action → Element → List Record → List Record

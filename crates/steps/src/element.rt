@@ -2,7 +2,6 @@
 ghost use Rattle.std.specs.Prelude.{◌≡◌};
 
 use card::Action;
-use octets::wide;
 use records::record::OpenCell;
 
 // A nonterminal over a stretch: a side or a dependent. Whole numbers, by which the table of cells is asked.
@@ -33,9 +32,9 @@ pub fn first_at(cell: OpenCell, k: u8, symbol: u8) -> Element
     ensures { (result.symbol ≡ symbol) × (result.from ≡ cell.from) × (result.to ≡ k) }
 {
     Element {
-        symbol: wide(symbol),
-        from: wide(cell.from),
-        to: wide(k),
+        symbol: usize::from(symbol),
+        from: usize::from(cell.from),
+        to: usize::from(k),
     }
 }
 
@@ -44,8 +43,8 @@ pub fn last_at(cell: OpenCell, k: u8, symbol: u8) -> Element
     ensures { (result.symbol ≡ symbol) × (result.from ≡ k) × (result.to ≡ cell.to) }
 {
     Element {
-        symbol: wide(symbol),
-        from: wide(k),
-        to: wide(cell.to),
+        symbol: usize::from(symbol),
+        from: usize::from(k),
+        to: usize::from(cell.to),
     }
 }

@@ -10,7 +10,6 @@ ghost use Rattle.steps.specs.Candidates.{takes, acts, meets, produces, ElementFi
 
 use crate::element::{Element, Elements, Side, first_at, last_at};
 use card::{Action, Card, Production};
-use octets::wide;
 use records::cells::Range;
 use records::record::{Foot, NOWHERE, OpenCell, Origin};
 
@@ -24,24 +23,24 @@ fn take_one(
     number: usize,
     range: Range,
     count: usize,
-) -> usize
+) -> Option<usize>
     requires { Adding cell chart.old marks.old range count × FootGiven cell foot number }
     ensures { AddedTo cell (takes cell side (foot_from foot) (counted range.from (range.to - range.from)))
         chart.old marks.old count chart.new marks.new result }
 {
-    let from = range.from;
-    if range.to <= from {
-        return count;
+    if range.to <= range.from {
+        return Some(count);
     }
     let origin = Origin {
         production: side.production,
         side: side.position,
-        dependent: from as u16,
+        dependent: range.from as u16,
         continuation: NOWHERE,
     };
     records::add::add(chart, marks, cell, foot, number, origin, count)
 }
 
+// Document 01 asks for the action as an enum, taken apart here: so no function is passed for it.
 fn by_action(
     chart: &mut [u8],
     marks: &mut [u8],
@@ -51,7 +50,7 @@ fn by_action(
     action: Action,
     dependent: Element,
     count: usize,
-) -> usize
+) -> Option<usize>
     requires { Filling cell chart.old marks.old cells.old count × ActionFits (action_from action) × ElementFits cell dependent }
     ensures { AdvancedTo cell (acts cell side action dependent (begun_with cell chart.old))
         chart.old marks.old cells.old count chart.new marks.new cells.new result }
@@ -72,7 +71,7 @@ fn by_action(
                 from: dependent.from as u8,
                 to: dependent.to as u8,
             };
-            let foot_number = Card::MAX_INDICES * number + wide(g) - 1;
+            let foot_number = Card::MAX_INDICES * number + usize::from(g) - 1;
             take_one(chart, marks, cell, side, foot, foot_number, range, count)
         }
         Action::Keep => crate::keep::keep_all(
@@ -91,14 +90,16 @@ fn with_side(
     p: u8,
     met: Elements,
     count: usize,
-) -> usize
+) -> Option<usize>
     requires { Filling cell chart.old marks.old cells.old count × ElementsFit cell met }
     ensures { AdvancedTo cell (meets cell p met (begun_with cell chart.old))
         chart.old marks.old cells.old count chart.new marks.new cells.new result }
 {
-    let beside = met.side;
-    let action = met.action;
-    let dependent = met.dependent;
+    let Elements {
+        side: beside,
+        action,
+        dependent,
+    } = met;
     let number = records::cells::cell_at(
         cell.words,
         cell.symbols,
@@ -107,13 +108,12 @@ fn with_side(
         beside.to,
     );
     let range = records::cells::range_of(cells, number);
-    let bare = range.bare;
-    if bare == 0 {
-        return count;
-    }
+    let Some(bare) = range.bare else {
+        return Some(count);
+    };
     let side = Side {
         production: p,
-        position: (bare - 1) as u16,
+        position: bare as u16,
     };
     by_action(chart, marks, cells, cell, side, action, dependent, count)
 }
@@ -127,43 +127,33 @@ pub fn by_production(
     p: u8,
     rule: Production,
     count: usize,
-) -> usize
+) -> Option<usize>
     requires { Filling cell chart.old marks.old cells.old count × RuleFits cell.symbols (rule_from rule) × (cell.from < k) × (k < cell.to) }
     ensures { AdvancedTo cell (produces cell k p rule (begun_with cell chart.old))
         chart.old marks.old cells.old count chart.new marks.new cells.new result }
 {
     let met = match rule {
-        Production::Word { left: _, word: _ } => return count,
         Production::SideFirst {
             left,
             action,
             side,
             dependent,
-        } => {
-            if left != cell.left {
-                return count;
-            }
-            Elements {
-                side: first_at(cell, k, side),
-                action,
-                dependent: last_at(cell, k, dependent),
-            }
-        }
+        } if left == cell.left => Elements {
+            side: first_at(cell, k, side),
+            action,
+            dependent: last_at(cell, k, dependent),
+        },
         Production::SideLast {
             left,
             action,
             dependent,
             side,
-        } => {
-            if left != cell.left {
-                return count;
-            }
-            Elements {
-                side: last_at(cell, k, side),
-                action,
-                dependent: first_at(cell, k, dependent),
-            }
-        }
+        } if left == cell.left => Elements {
+            side: last_at(cell, k, side),
+            action,
+            dependent: first_at(cell, k, dependent),
+        },
+        _ => return Some(count),
     };
     with_side(chart, marks, cells, cell, p, met, count)
 }

@@ -1,6 +1,6 @@
 -- What is left of a record is unfolded one part after the other, by a side and a spine that come in either order: each is shorter than
 -- the record and has what it asks, and the step and the two plans are the record's plan.
-use Prim.Native.Nat.{ℕ, ◌+◌, ◌≤◌, ◌<◌}
+use Prim.Native.Nat.{ℕ, ◌≤◌, ◌<◌}
 use native.Mathlib.Nat.{le_refl}
 use native.Mathlib.Omega.{arith}
 use mathlib.Core.Path.{◌≡◌, refl, ◌∙◌, subst}
@@ -8,23 +8,14 @@ use mathlib.Core.Bool.{Bool}
 use mathlib.Core.List.{List, []}
 use Rattle.card.specs.Productions.{action_from}
 use Rattle.unfold.specs.declared.Rest.{Rest}
-use Rattle.unfold.specs.declared.Left.{Left}
 use Rattle.unfold.specs.declared.Left.TheVariants.{Nothing, SideFirst, SideLast}
-use Rattle.unfold.specs.Spine.{from_at, to_at, length_at, rule_at, waiting, alone, Stays, Ready, Asked, Unfolds, UnfoldsSpine}
-use Rattle.unfold.specs.Spine.{Opened, opened_word, opened_first, opened_last, StepWritten}
+use Rattle.unfold.specs.declared.Source.{Source}
+use Rattle.unfold.specs.Spine.{from_at, to_at, length_at, rule_at, waiting, alone, Stays, Ready}
+use Rattle.unfold.specs.Unfolding.{Asked, Opened, opened_word, opened_first, opened_last, StepWritten, Opens, Unfolds, UnfoldsSpine}
 use Rattle.unfold.proofs.Waiting.{none-waiting, untouched, stays_then, stays-below, waiting_stays}
 use Rattle.unfold.proofs.Turns.{Parts, Turn, turn}
 use Rattle.unfold.proofs.Spines.{node-turn, word_of, first_of, last_of, lone, first-shorter, second-shorter, meeting, first_above}
 use Rattle.unfold.proofs.Spines.{first-room, second-room, joined}
-
--- What the opening of a record promises.
-abbrev pub Opens : List ℕ → List ℕ → List ℕ → Rest → List ℕ → List ℕ → ℕ → List ℕ → Left → Type 0
-Opens card chart stack whole stack₁ plan here plan₁ left =
-    Opened card chart stack whole stack₁ left × StepWritten chart whole.position left plan here plan₁
-
-pub opening : {card chart stack stack₁ plan plan₁ : List ℕ} {here : ℕ} {whole : Rest} {left : Left} → Opened card chart stack whole stack₁ left
-    → StepWritten chart whole.position left plan here plan₁ → Opens card chart stack whole stack₁ plan here plan₁ left
-opening opened written = (opened, written)
 
 -- The rest of a spine has the same base, and below it the stack stays.
 record Follows (stack : List ℕ) (whole : Rest) (stack₁ : List ℕ) (rest : Rest) : Type 0 where
@@ -37,24 +28,24 @@ alone-ready : {card : List ℕ} {at : ℕ → ℕ → Bool} {chart : List ℕ} {
     → Ready card at chart count m s [] → Ready card at chart count m s (waiting stack (alone m depth))
 alone-ready {m = m} stack depth ready = rw (none-waiting stack m depth) ready
 
-pub as-side : {card chart stack plan new : List ℕ} {table m depth here next : ℕ} {stays : Type 0}
-    → Asked card table chart stack (alone m depth) plan here → UnfoldsSpine card chart stack (alone m depth) plan here new next × stays
-    → Unfolds card chart m [] plan here new next × stays
-as-side {card} {chart} {stack} {plan} {new} {m = m} {depth = depth} {here = here} {next = next} asked (plans, kept) =
-    (subst (λ (pending : List ℕ). Unfolds card chart m pending plan here new next) (none-waiting stack m depth) plans, kept)
+pub as-side : {source : Source} {stack plan new : List ℕ} {m depth here next : ℕ} {stays : Type 0}
+    → Asked source stack (alone m depth) plan here → UnfoldsSpine source stack (alone m depth) plan here new next × stays
+    → Unfolds source m [] plan here new next × stays
+as-side {source} {stack} {plan} {new} {m = m} {depth = depth} {here = here} {next = next} asked (plans, kept) =
+    (subst (λ (pending : List ℕ). Unfolds source m pending plan here new next) (none-waiting stack m depth) plans, kept)
 
 -- A word has no parts.
-module _ {card chart stack stack₁ plan plan₁ : List ℕ} {here next : ℕ} {whole : Rest} where
-  word-yields : Opened card chart stack whole stack₁ (Nothing next) → StepWritten chart whole.position (Nothing next) plan here plan₁
-      → UnfoldsSpine card chart stack whole plan here plan₁ next × Stays whole.base stack stack₁
+module _ {source : Source} {stack stack₁ plan plan₁ : List ℕ} {here next : ℕ} {whole : Rest} where
+  word-yields : Opened source stack whole stack₁ (Nothing next) → StepWritten source whole.position (Nothing next) plan here plan₁
+      → UnfoldsSpine source stack whole plan here plan₁ next × Stays whole.base stack stack₁
   word-yields (opened_word e same) w = (
-    λ at count s ready. lone (word_of (subst (Turn card at chart count _ _ _ _ _ _ _ _) e (turn ready))) w,
+    λ at count s ready. lone (word_of (subst (Turn source.card.bytes.now at source.chart.now count _ _ _ _ _ _ _ _) e (turn ready))) w,
     rw same untouched,
   )
 
-  pub word-joined : {left : Left} → Opens card chart stack whole stack₁ plan here plan₁ left → left ≡ Nothing next
-      → UnfoldsSpine card chart stack whole plan here plan₁ next × Stays whole.base stack stack₁
-  word-joined opens e = let o = subst (Opens card chart stack whole stack₁ plan here plan₁) e opens in word-yields o.0 o.1
+  pub word-joined : Opens source stack whole stack₁ plan here plan₁ (Nothing next)
+      → UnfoldsSpine source stack whole plan here plan₁ next × Stays whole.base stack stack₁
+  word-joined opens = word-yields opens.opened opens.step_written
 
 -- The parts of a record whose side comes first, and of one whose side comes last.
 abbrev FirstParts : List ℕ → (ℕ → ℕ → Bool) → List ℕ → ℕ → ℕ → List ℕ → ℕ → ℕ → List ℕ → Type 0
@@ -65,71 +56,59 @@ abbrev LastParts : List ℕ → (ℕ → ℕ → Bool) → List ℕ → ℕ → 
 LastParts card at chart count m pending beside position rest =
     (t : List ℕ) × Parts card at chart count m (rule_at chart m) (from_at chart m) (to_at chart m) pending position t rest beside [] []
 
-module _ {card chart stack stack₁ : List ℕ} {beside next : ℕ} {whole rest : Rest} where
-  first-follows : Opened card chart stack whole stack₁ (SideFirst beside rest next) → Follows stack whole stack₁ rest
+module _ {source : Source} {stack stack₁ : List ℕ} {beside next : ℕ} {whole rest : Rest} where
+  first-follows : Opened source stack whole stack₁ (SideFirst beside rest next) → Follows stack whole stack₁ rest
   first-follows (opened_first node e same goes) = record { base = goes.base; above = goes.above; stays = goes.stays }
 
-  last-follows : Opened card chart stack whole stack₁ (SideLast rest beside next) → Follows stack whole stack₁ rest
+  last-follows : Opened source stack whole stack₁ (SideLast rest beside next) → Follows stack whole stack₁ rest
   last-follows (opened_last node e same goes) = record { base = goes.base; above = goes.above; stays = goes.stays }
 
-  module _ {at : ℕ → ℕ → Bool} {count : ℕ} {s : List ℕ} (ready : Ready card at chart count whole.position s (waiting stack whole)) where
-    first-parts : Opened card chart stack whole stack₁ (SideFirst beside rest next)
-        → FirstParts card at chart count whole.position (waiting stack whole) beside rest.position (waiting stack₁ rest)
+  module _ {at : ℕ → ℕ → Bool} {count : ℕ} {s : List ℕ} (ready : Ready source.card.bytes.now at source.chart.now count whole.position s (waiting stack whole)) where
+    first-parts : Opened source stack whole stack₁ (SideFirst beside rest next)
+        → FirstParts source.card.bytes.now at source.chart.now count whole.position (waiting stack whole) beside rest.position (waiting stack₁ rest)
     first-parts (opened_first {a = a} node e same goes) =
         rw same (first_of (action_from a) (node-turn ready node e) goes.position goes.pending)
 
-    last-parts : Opened card chart stack whole stack₁ (SideLast rest beside next)
-        → LastParts card at chart count whole.position (waiting stack whole) beside rest.position (waiting stack₁ rest)
+    last-parts : Opened source stack whole stack₁ (SideLast rest beside next)
+        → LastParts source.card.bytes.now at source.chart.now count whole.position (waiting stack whole) beside rest.position (waiting stack₁ rest)
     last-parts (opened_last {a = a} node e same goes) =
         rw same (last_of (action_from a) (node-turn ready node e) goes.position goes.pending)
 
 -- The side first: it has its place on the stack above what is pending for the spine, and leaves that.
-module _ {card chart stack stack₁ plan plan₁ : List ℕ} {table here beside next : ℕ} {whole rest : Rest} {left : Left}
-    (asked : Asked card table chart stack whole plan here) (opens : Opens card chart stack whole stack₁ plan here plan₁ left)
-    (e : left ≡ SideFirst beside rest next) where
-  first-opens : Opens card chart stack whole stack₁ plan here plan₁ (SideFirst beside rest next)
-  first-opens = subst (Opens card chart stack whole stack₁ plan here plan₁) e opens
+module _ {source : Source} {stack stack₁ plan plan₁ : List ℕ} {here beside next : ℕ} {whole rest : Rest}
+    (asked : Asked source stack whole plan here) (opens : Opens source stack whole stack₁ plan here plan₁ (SideFirst beside rest next)) where
+  rest-above : rest.base ≤ rest.depth
+  rest-above = (first-follows opens.opened).above
 
-  pub rest-above : rest.base ≤ rest.depth
-  rest-above = (first-follows first-opens.0).above
+  pub side-before : (length_at source.chart.now beside < length_at source.chart.now whole.position)
+      × Asked source stack₁ (alone beside rest.depth) plan₁ next
+  side-before =
+      let f = first-follows opens.opened in
+      let (t, parts) = first-parts asked.ready opens.opened in (
+        first-shorter parts,
+        record {
+          at = asked.at;
+          count = asked.count;
+          indices = [];
+          ready = alone-ready stack₁ rest.depth parts.first.ready;
+          above = le_refl rest.depth;
+          full = f.stays.long ∙ asked.full;
+          short = first_above parts stack₁ rest refl f.above (omega (arith, f.base, asked.short));
+          room = first-room parts asked.room opens.step_written;
+        },
+      )
 
-  pub side-shorter : length_at chart beside < length_at chart whole.position
-  side-shorter = let (t, parts) = first-parts asked.ready first-opens.0 in first-shorter parts
-
-  pub side-above : rest.depth + length_at chart beside ≤ 24
-  side-above =
-      let f = first-follows first-opens.0 in
-      let (t, parts) = first-parts asked.ready first-opens.0 in
-      first_above parts stack₁ rest refl f.above (omega (arith, f.base, asked.short))
-
-  pub side-asked : {depth : ℕ} → depth + length_at chart beside ≤ 24 → Asked card table chart stack₁ (alone beside depth) plan₁ next
-  side-asked {depth} short = let (t, parts) = first-parts asked.ready first-opens.0 in
-      record {
-        accepted = asked.accepted;
-        starts = asked.starts;
-        at = asked.at;
-        count = asked.count;
-        indices = [];
-        ready = alone-ready stack₁ depth parts.first.ready;
-        above = le_refl depth;
-        full = (first-follows first-opens.0).stays.long ∙ asked.full;
-        short = short;
-        room = first-room parts asked.room first-opens.1;
-      }
-
-  module _ {stack₂ plan₂ : List ℕ} {then : ℕ} (plans : Unfolds card chart beside [] plan₁ next plan₂ then)
+  module _ {stack₂ plan₂ : List ℕ} {then : ℕ} (plans : Unfolds source beside [] plan₁ next plan₂ then)
       (kept : Stays rest.depth stack₁ stack₂) where
     still : waiting stack₂ rest ≡ waiting stack₁ rest
     still = waiting_stays rest rest-above kept
 
-    pub spine-after : (length_at chart rest.position < length_at chart whole.position) × Asked card table chart stack₂ rest plan₂ then
+    pub spine-after : (length_at source.chart.now rest.position < length_at source.chart.now whole.position) × Asked source stack₂ rest plan₂ then
     spine-after =
-        let f = first-follows first-opens.0 in
-        let (t, parts) = first-parts asked.ready first-opens.0 in (
+        let f = first-follows opens.opened in
+        let (t, parts) = first-parts asked.ready opens.opened in (
           second-shorter parts,
           record {
-            accepted = asked.accepted;
-            starts = asked.starts;
             at = asked.at;
             count = asked.count;
             indices = t;
@@ -137,36 +116,30 @@ module _ {card chart stack stack₁ plan plan₁ : List ℕ} {table here beside 
             above = rest-above;
             full = kept.long ∙ f.stays.long ∙ asked.full;
             short = omega (arith, f.base, asked.short, second-shorter parts);
-            room = second-room parts asked.room first-opens.1 (plans _ _ _ parts.first.ready);
+            room = second-room parts asked.room opens.step_written (plans _ _ _ parts.first.ready);
           },
         )
 
-    pub first-joined : {stack₃ plan₃ : List ℕ} {last : ℕ} → UnfoldsSpine card chart stack₂ rest plan₂ then plan₃ last
-        → Stays rest.base stack₂ stack₃ → UnfoldsSpine card chart stack whole plan here plan₃ last × Stays whole.base stack stack₃
+    pub first-joined : {stack₃ plan₃ : List ℕ} {last : ℕ} → UnfoldsSpine source stack₂ rest plan₂ then plan₃ last
+        → Stays rest.base stack₂ stack₃ → UnfoldsSpine source stack whole plan here plan₃ last × Stays whole.base stack stack₃
     first-joined {stack₃} {plan₃} {last} seconds stays =
-        let f = first-follows first-opens.0 in
-        let rests = subst (λ (pending : List ℕ). Unfolds card chart rest.position pending plan₂ then plan₃ last) still seconds in (
-          λ at count s ready. let (t, parts) = first-parts ready first-opens.0 in
-              joined parts refl first-opens.1 (plans at count [] parts.first.ready) (rests at count t parts.second.ready),
+        let f = first-follows opens.opened in
+        let rests = subst (λ (pending : List ℕ). Unfolds source rest.position pending plan₂ then plan₃ last) still seconds in (
+          λ at count s ready. let (t, parts) = first-parts ready opens.opened in
+              joined parts refl opens.step_written (plans at count [] parts.first.ready) (rests at count t parts.second.ready),
           stays_then f.stays
               (subst (λ (base : ℕ). Stays base stack₁ stack₃) f.base (stays_then (stays-below _ _ rest-above kept) stays)),
         )
 
 -- The side last: nothing is pending any more.
-module _ {card chart stack stack₁ plan plan₁ : List ℕ} {table here beside next : ℕ} {whole rest : Rest} {left : Left}
-    (asked : Asked card table chart stack whole plan here) (opens : Opens card chart stack whole stack₁ plan here plan₁ left)
-    (e : left ≡ SideLast rest beside next) where
-  last-opens : Opens card chart stack whole stack₁ plan here plan₁ (SideLast rest beside next)
-  last-opens = subst (Opens card chart stack whole stack₁ plan here plan₁) e opens
-
-  pub spine-before : (length_at chart rest.position < length_at chart whole.position) × Asked card table chart stack₁ rest plan₁ next
+module _ {source : Source} {stack stack₁ plan plan₁ : List ℕ} {here beside next : ℕ} {whole rest : Rest}
+    (asked : Asked source stack whole plan here) (opens : Opens source stack whole stack₁ plan here plan₁ (SideLast rest beside next)) where
+  pub spine-before : (length_at source.chart.now rest.position < length_at source.chart.now whole.position) × Asked source stack₁ rest plan₁ next
   spine-before =
-      let f = last-follows last-opens.0 in
-      let (t, parts) = last-parts asked.ready last-opens.0 in (
+      let f = last-follows opens.opened in
+      let (t, parts) = last-parts asked.ready opens.opened in (
         first-shorter parts,
         record {
-          accepted = asked.accepted;
-          starts = asked.starts;
           at = asked.at;
           count = asked.count;
           indices = t;
@@ -174,20 +147,18 @@ module _ {card chart stack stack₁ plan plan₁ : List ℕ} {table here beside 
           above = f.above;
           full = f.stays.long ∙ asked.full;
           short = omega (arith, f.base, asked.short, first-shorter parts);
-          room = first-room parts asked.room last-opens.1;
+          room = first-room parts asked.room opens.step_written;
         },
       )
 
-  module _ {stack₂ plan₂ : List ℕ} {then : ℕ} (plans : UnfoldsSpine card chart stack₁ rest plan₁ next plan₂ then)
+  module _ {stack₂ plan₂ : List ℕ} {then : ℕ} (plans : UnfoldsSpine source stack₁ rest plan₁ next plan₂ then)
       (kept : Stays rest.base stack₁ stack₂) where
-    pub side_after : (length_at chart beside < length_at chart whole.position) × Asked card table chart stack₂ (alone beside whole.base) plan₂ then
+    pub side_after : (length_at source.chart.now beside < length_at source.chart.now whole.position) × Asked source stack₂ (alone beside whole.base) plan₂ then
     side_after =
-        let f = last-follows last-opens.0 in
-        let (t, parts) = last-parts asked.ready last-opens.0 in (
+        let f = last-follows opens.opened in
+        let (t, parts) = last-parts asked.ready opens.opened in (
           second-shorter parts,
           record {
-            accepted = asked.accepted;
-            starts = asked.starts;
             at = asked.at;
             count = asked.count;
             indices = [];
@@ -195,14 +166,14 @@ module _ {card chart stack stack₁ plan plan₁ : List ℕ} {table here beside 
             above = le_refl whole.base;
             full = kept.long ∙ f.stays.long ∙ asked.full;
             short = omega (arith, asked.short, second-shorter parts);
-            room = second-room parts asked.room last-opens.1 (plans _ _ _ parts.first.ready);
+            room = second-room parts asked.room opens.step_written (plans _ _ _ parts.first.ready);
           },
         )
 
-    pub last-joined : {stack₃ plan₃ : List ℕ} {last : ℕ} → Unfolds card chart beside [] plan₂ then plan₃ last
-        → Stays whole.base stack₂ stack₃ → UnfoldsSpine card chart stack whole plan here plan₃ last × Stays whole.base stack stack₃
-    last-joined seconds stays = let f = last-follows last-opens.0 in (
-      λ at count s ready. let (t, parts) = last-parts ready last-opens.0 in
-          joined parts (meeting parts) last-opens.1 (plans at count t parts.first.ready) (seconds at count [] parts.second.ready),
+    pub last-joined : {stack₃ plan₃ : List ℕ} {last : ℕ} → Unfolds source beside [] plan₂ then plan₃ last
+        → Stays whole.base stack₂ stack₃ → UnfoldsSpine source stack whole plan here plan₃ last × Stays whole.base stack stack₃
+    last-joined seconds stays = let f = last-follows opens.opened in (
+      λ at count s ready. let (t, parts) = last-parts ready opens.opened in
+          joined parts (meeting parts) opens.step_written (plans at count t parts.first.ready) (seconds at count [] parts.second.ready),
       stays_then f.stays (stays_then (subst (λ (base : ℕ). Stays base stack₁ stack₂) f.base kept) stays),
     )

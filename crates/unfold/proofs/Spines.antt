@@ -20,8 +20,10 @@ use Rattle.layout.specs.Steps.{step_bytes, plan_room}
 use Rattle.layout.proofs.CardLaws.{card-one-sided}
 use Rattle.unfold.specs.declared.Node.{Node}
 use Rattle.unfold.specs.declared.Rest.{Rest}
+use Rattle.unfold.specs.declared.Source.{Source}
 use Rattle.unfold.specs.Unfold.{RecordedWay}
-use Rattle.unfold.specs.Spine.{from_at, to_at, length_at, rule_at, NodeOf, waiting, Ready, Asked, Unfolded}
+use Rattle.unfold.specs.Spine.{from_at, to_at, length_at, rule_at, NodeOf, waiting, Ready, Unfolded}
+use Rattle.unfold.specs.Unfolding.{Asked}
 use Rattle.layout.specs.Written.{Wrote}
 use Rattle.layout.proofs.Writing.{wrote-length, wrote_then}
 use Rattle.layout.proofs.Lengths.{plan-bytes-length, plan-join}
@@ -92,7 +94,7 @@ pub lone : {card : List ℕ} {at : ℕ → ℕ → Bool} {chart pending old new 
 lone {st = st} y w = record { steps = st ∷ []; way = y; wrote = rw (append-nil (step_bytes st)) w }
 
 -- The room for a step, since a record has some word.
-pub step_room : {card chart stack plan : List ℕ} {table here : ℕ} {whole : Rest} → Asked card table chart stack whole plan here
+pub step_room : {source : Source} {stack plan : List ℕ} {here : ℕ} {whole : Rest} → Asked source stack whole plan here
     → here + 4 ≤ length plan
 step_room a = omega (arith, depth_below a.ready, a.room)
 

@@ -1,10 +1,10 @@
--- The item of the start is told by four bytes, for γ = 0 is no foot; and a search from the last record down has passed every record
--- that it has left behind.
-use Prim.Native.Nat.{ℕ, ◌+◌, ◌*◌, ◌-◌, ◌≤◌, ◌<◌}
+-- The item of the start is told by four bytes, for γ = 0 is no foot; and a search that finds none among the records has refuted that it
+-- stands there.
+use Prim.Native.Nat.{ℕ, ◌+◌, ◌*◌, ◌-◌, ◌<◌}
 use native.Mathlib.Omega.{arith}
 use native.Mathlib.Decide.{ℕ_discrete}
-use mathlib.Core.Path.{◌≡◌, sym, ◌∙◌, ap, subst}
-use mathlib.Core.Bool.{Bool, true}
+use mathlib.Core.Path.{◌≡◌, refl, sym, ◌∙◌, ap, subst}
+use mathlib.Core.Bool.{true, false}
 use mathlib.Core.List.{List, map, Memᴰ}
 use borrow.Author.Tests.{eq-eqb, ne_eqb}
 use Rattle.grammar.specs.Items.{bare, foot}
@@ -16,7 +16,11 @@ use Rattle.grammar.proofs.ItemListExact.{among-true, among-mem}
 use Rattle.layout.specs.Records.{record_at, chart_in, as_foot, foot_there}
 use Rattle.layout.proofs.TestLaws.{unless-true}
 use Rattle.layout.proofs.CountedLaws.{table-stands, stands-below, stands-there}
-use Rattle.unfold.specs.declared.Start.TheVariants.{At, Missing}
+use Rattle.std.specs.Prelude.{Option, Some, None, IfSome}
+use Rattle.std.specs.Option.{option_map}
+use Rattle.std.specs.Iterator.Runs.{Run}
+use Rattle.std.specs.declared.ops.Range.{Range}
+use Rattle.std.proofs.iter.runs.Sources.{nat_range_steps_back, range_runs_back}
 use Rattle.unfold.specs.Unfold.{start_stands, Found}
 use Rattle.unfold.specs.Spine.{name_at, from_at, to_at, IsStart}
 
@@ -50,28 +54,6 @@ module _ (chart : List ℕ) (m n : ℕ) where
     pub start-foot : foot_there chart m ≡ bare
     start-foot = cc
 
-  pub answered : {b : Bool} (c : Bool) → IsStart chart m n b → b ≡ c → IsStart chart m n c
-  answered c h e = subst (IsStart chart m n) e h
-
--- No record from m on is the start's.
-pub record Passed (chart : List ℕ) (count n m : ℕ) : Type 0 where
-  pub below : m ≤ count
-  pub others : (k : ℕ) → m ≤ k → k < count → item_of (record_at chart k) ≡ item 0 0 n bare → ⊥
-
-pub passed_none : {chart : List ℕ} {count n : ℕ} → Passed chart count n count
-passed_none = record { below = omega arith; others = λ k a b e. absurd (omega arith) }
-
-pub passed-more : {chart : List ℕ} {count n m : ℕ} → Passed chart count n m → 0 < m
-    → (item_of (record_at chart (m - 1)) ≡ item 0 0 n bare → ⊥) → Passed chart count n (m - 1)
-passed-more {chart} {count} {n} {m} p h this =
-    record {
-      below = let b = p.below in omega arith;
-      others = λ k a b e. elim (ℕ_discrete k (m - 1)) [
-        | yes d ↦ this (subst (λ (x : ℕ). item_of (record_at chart x) ≡ item 0 0 n bare) d e)
-        | no ne ↦ p.others k (omega arith) b e
-      ];
-    }
-
 -- What the search answers: the item stands among the records where one of them has it, and does not where none has.
 module _ (chart : List ℕ) (count n : ℕ) where
   pub stands-among : (m : ℕ) → m < count → item_of (record_at chart m) ≡ item 0 0 n bare → start_stands chart count n ≡ true
@@ -85,11 +67,26 @@ module _ (chart : List ℕ) (count n : ℕ) where
       let (m, s) = in-stands k in
       (m, stands-below (record_at chart) count m s, ap item_of (sym (stands-there (record_at chart) count m s)) ∙ sym eq)
 
-  pub found_at : {m : ℕ} → m < count → item_of (record_at chart m) ≡ item 0 0 n bare → Found chart count n (At m)
-  found_at {m} h e = record { number = rw (stands-among m h e); place = (h, e) }
+  refuted : ((m : ℕ) → m < count → IsStart chart m n false) → start_stands chart count n ≡ true → ⊥
+  refuted none e = let (m, h, eq) = stands-somewhere e in none m h eq
 
-  pub found_nowhere : ((m : ℕ) → m < count → item_of (record_at chart m) ≡ item 0 0 n bare → ⊥) → Found chart count n Missing
-  found_nowhere none = record { number = rw (unless-true (start_stands chart count n) λ e. absurd (refutes e)); place = tt }
-    where
-      refutes : start_stands chart count n ≡ true → ⊥
-      refutes e = let (m, h, eq) = stands-somewhere e in none m h eq
+  pub found : (start : Option ℕ) → IfSome start (λ m. (m < count) × IsStart chart m n true)
+      → (start ≡ None → (m : ℕ) → m < count → IsStart chart m n false) → Found chart count n start
+  found (Some m) (h, e) none = record { number = rw (stands-among m h e); place = (h, e) }
+  found None some none =
+      record { number = rw (unless-true (start_stands chart count n) λ e. absurd (refuted (none refl) e)); place = tt }
+
+-- A run that went down from count to its end gave each number below it.
+pub down : (p : Run nat_range_steps_back) (count : ℕ) (P : ℕ → Type 0) → p.from ≡ record { start = 0; end = count } → p.whole ≡ true
+    → ((k : ℕ) → IfSome (p.at k) P) → (m : ℕ) → m < count → P m
+down p count P from whole each m h =
+    let (most, all, items, there) = range_runs_back p p.seen in
+    let end : p.from.end ≡ count = ap (λ (r : Range ℕ). r.end) from in
+    let start : p.from.start ≡ 0 = ap (λ (r : Range ℕ). r.start) from in
+    let last : p.from.end - 1 - (count - 1 - m) ≡ m = omega arith in
+    let long : count - 1 - m < p.len = omega (arith, all whole) in
+    some_item (p.at (count - 1 - m)) (there (count - 1 - m) long ∙ ap Some last) (each (count - 1 - m))
+  where
+    some_item : (o : Option ℕ) → option_map (λ y. y) o ≡ Some m → IfSome o P → P m
+    some_item (Some x) e h = let same : x ≡ m = cc in subst P same h
+    some_item None e h = absurd (let z : None ≡ Some m = e in cc)

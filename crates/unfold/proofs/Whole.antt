@@ -10,11 +10,12 @@ use lib.ListN.{length, drop}
 use Rattle.grammar.specs.Items.{Foot, bare}
 use Rattle.grammar.specs.ItemList.{item}
 use Rattle.grammar.specs.Chart.{item_of, Pends, nothing_pends}
-use Rattle.layout.specs.Card.{production_table}
 use Rattle.layout.specs.Records.{record_at, chart_in}
 use Rattle.layout.specs.Steps.{plan_bytes}
 use Rattle.unfold.specs.Unfold.{Held, Unfoldable, Planned}
-use Rattle.unfold.specs.Spine.{alone, Ready, Asked, Unfolded}
+use Rattle.unfold.specs.declared.Source.{Source}
+use Rattle.unfold.specs.Spine.{alone, Ready, Unfolded}
+use Rattle.unfold.specs.Unfolding.{Asked}
 use Rattle.unfold.proofs.Starting.{start-from, start-to, start-foot}
 use Rattle.layout.proofs.Lengths.{plan-bytes-length}
 
@@ -27,16 +28,14 @@ start-ready {chart = chart} {count = count} {m = m} {n = n} held inside e =
       pends = subst (λ (φ : Foot). Pends (chart_in chart count) φ [] []) (sym (start-foot chart m n e)) nothing_pends;
     }
 
-pub start-asked : {card chart stack plan : List ℕ} {table count m n : ℕ} → Unfoldable card chart count m n plan
-    → table ≡ production_table card → length stack ≡ 24 → Asked card table chart stack (alone m 0) plan 0
-start-asked {chart = chart} {count = count} {m = m} {n = n} u starts full =
-    let from = start-from chart m n u.whole in
-    let to = start-to chart m n u.whole in
+pub start-asked : {source : Source} {stack plan : List ℕ} {count m n : ℕ} → Unfoldable source.card.bytes.now source.chart.now count m n plan
+    → length stack ≡ 24 → Asked source stack (alone m 0) plan 0
+start-asked {source} {m = m} {n = n} u full =
+    let from = start-from source.chart.now m n u.whole in
+    let to = start-to source.chart.now m n u.whole in
     record {
-      accepted = u.accepted;
-      starts = starts;
       at = u.at;
-      count = count;
+      count = _;
       indices = [];
       ready = start-ready u.held u.inside u.whole;
       above = le_refl 0;

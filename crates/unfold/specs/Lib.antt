@@ -1,2 +1,3 @@
 pub mod Unfold
 pub mod Spine
+pub mod Unfolding

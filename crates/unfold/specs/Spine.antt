@@ -1,22 +1,18 @@
 -- Document 01, "The plan": one record unfolded with what is pending under its foot. What the private functions ask and promise.
 use Rattle.std.specs.Prelude.{ℕ, zero, suc, ◌+◌, ◌*◌, ◌-◌, ◌≤◌, ◌<◌, ◌≡◌, Bool, true, false, List, [], ◌∷◌, length, get_or, take}
-use Rattle.grammar.specs.Rewriting.{Lexical, Spine}
 use Rattle.grammar.specs.Items.{bare}
 use Rattle.grammar.specs.ItemList.{item}
 use Rattle.grammar.specs.Chart.{item_of, Onward, onward, Pends}
 use Rattle.grammar.specs.Plan.{PlanStep, plan_step}
 use Rattle.layout.specs.Bytes.{byte_at, number16_at}
-use Rattle.layout.specs.Card.{production, production_table, card_number}
 use Rattle.layout.specs.Records.{record_at, foot_there, chart_in}
-use Rattle.layout.specs.Steps.{step_bytes, plan_bytes, plan_room}
+use Rattle.layout.specs.Steps.{plan_bytes}
 use Rattle.layout.specs.Written.{Wrote}
 use Rattle.card.specs.Productions.{action_from}
 use Rattle.card.specs.declared.Action.{Action}
 use Rattle.card.specs.declared.Action.TheVariants.{Take, Keep, Give}
 use Rattle.unfold.specs.declared.Node.{Node}
 use Rattle.unfold.specs.declared.Rest.{Rest}
-use Rattle.unfold.specs.declared.Left.{Left}
-use Rattle.unfold.specs.declared.Left.TheVariants.{Nothing, SideFirst, SideLast}
 use Rattle.unfold.specs.Unfold.{Held, RecordedWay}
 
 -- Of the record at position m: its nonterminal, where its stretch starts and ends, how many words that is, and its production.
@@ -103,60 +99,9 @@ pub record Ready (card : List ℕ) (at : ℕ → ℕ → Bool) (chart : List ℕ
   pub inside : m < count
   pub pends : Pends (chart_in chart count) (foot_there chart m) s pending
 
--- What an unfolding asks: an accepted card with its productions from `table` on, and such a record, for some test and some stack of
--- indices; a place on the lent stack above base for each of its words, and room for its plan from `here` on.
-pub record Asked (card : List ℕ) (table : ℕ) (chart stack : List ℕ) (whole : Rest) (plan : List ℕ) (here : ℕ) : Type 0 where
-  pub accepted : card_number card ≡ 0
-  pub starts : table ≡ production_table card
-  pub at : ℕ → ℕ → Bool
-  pub count : ℕ
-  pub indices : List ℕ
-  pub ready : Ready card at chart count whole.position indices (waiting stack whole)
-  pub above : whole.base ≤ whole.depth
-  pub full : length stack ≡ 24
-  pub short : whole.base + length_at chart whole.position ≤ 24
-  pub room : here + plan_room (length_at chart whole.position) ≤ length plan
-
--- What is left of a record by its production: of a word nothing; and else its side, and the rest of its spine.
-pub data Opened (card chart old : List ℕ) (whole : Rest) (new : List ℕ) : Left → Type 0 where
-  opened_word : {A w next : ℕ} → production card (rule_at chart whole.position) ≡ Lexical A w → new ≡ old
-      → Opened card chart old whole new (Nothing next)
-  opened_first : {A B D beside next : ℕ} {a : Action} {node : Node} {rest : Rest} → NodeOf chart whole.position node
-      → production card (rule_at chart whole.position) ≡ Spine A (action_from a) (B ∷ []) D [] → beside ≡ node.side
-      → GoesOn a node old whole new rest → Opened card chart old whole new (SideFirst beside rest next)
-  opened_last : {A B D beside next : ℕ} {a : Action} {node : Node} {rest : Rest} → NodeOf chart whole.position node
-      → production card (rule_at chart whole.position) ≡ Spine A (action_from a) [] D (B ∷ []) → beside ≡ node.side
-      → GoesOn a node old whole new rest → Opened card chart old whole new (SideLast rest beside next)
-
--- Where its step is split, and where the plan goes on after it.
-abbrev pub split_by : List ℕ → ℕ → Left → ℕ
-split_by chart m (Nothing next) = to_at chart m
-split_by chart m (SideFirst beside rest next) = to_at chart beside
-split_by chart m (SideLast rest beside next) = from_at chart beside
-
-abbrev pub next_in : Left → ℕ
-next_in (Nothing next) = next
-next_in (SideFirst beside rest next) = next
-next_in (SideLast rest beside next) = next
-
--- The step of the record at m is written.
-abbrev pub StepWritten : List ℕ → ℕ → Left → List ℕ → ℕ → List ℕ → Type 0
-StepWritten chart m left old here new =
-    Wrote old here (step_bytes (plan_step (rule_at chart m) (from_at chart m) (split_by chart m left) (to_at chart m))) new (next_in left)
-
 -- The room has the plan that goes down from the record at m by the recorded steps.
 pub record Unfolded (card : List ℕ) (at : ℕ → ℕ → Bool) (chart : List ℕ) (count m : ℕ) (pending old : List ℕ) (here : ℕ) (new : List ℕ)
     (next : ℕ) : Type 0 where
   pub steps : List PlanStep
   pub way : RecordedWay card at chart count m pending steps
   pub wrote : Wrote old here (plan_bytes steps) new next
-
--- And it does so for every test and every stack of indices for which the record at m is ready; for a spine, with what is pending on
--- the lent stack.
-abbrev pub Unfolds : List ℕ → List ℕ → ℕ → List ℕ → List ℕ → ℕ → List ℕ → ℕ → Type 0
-Unfolds card chart m pending old here new next =
-    (at : ℕ → ℕ → Bool) (count : ℕ) (s : List ℕ) → Ready card at chart count m s pending
-    → Unfolded card at chart count m pending old here new next
-
-abbrev pub UnfoldsSpine : List ℕ → List ℕ → List ℕ → Rest → List ℕ → ℕ → List ℕ → ℕ → Type 0
-UnfoldsSpine card chart stack whole old here new next = Unfolds card chart whole.position (waiting stack whole) old here new next

@@ -1,6 +1,6 @@
 -- Document 01, "The plan": what unfolding promises. The room's records are those of a chart, whatever chart it is. The line is read
 -- through a test: `at i w`, is the word at place i word number w?
-use Rattle.std.specs.Prelude.{ℕ, ◌*◌, ◌≤◌, ◌<◌, ◌≡◌, Bool, cond, List, [], ◌++◌, map, length, drop}
+use Rattle.std.specs.Prelude.{ℕ, ◌*◌, ◌≤◌, ◌<◌, ◌≡◌, Bool, cond, Option, Some, None, List, [], ◌++◌, map, length, drop}
 use Rattle.grammar.specs.Lists.{Stands}
 use Rattle.grammar.specs.Input.{Holds}
 use Rattle.grammar.specs.Items.{bare}
@@ -11,8 +11,6 @@ use Rattle.grammar.specs.Ways.{Way, Recorded}
 use Rattle.layout.specs.Card.{grammar_of, card_number}
 use Rattle.layout.specs.Records.{record_at, chart_in}
 use Rattle.layout.specs.Steps.{plan_bytes, plan_steps, plan_room}
-use Rattle.unfold.specs.declared.Start.{Start}
-use Rattle.unfold.specs.declared.Start.TheVariants.{At, Missing}
 
 -- Each of the first count records of the room is justified, for the line of the test.
 pub record Held (card : List ℕ) (at : ℕ → ℕ → Bool) (chart : List ℕ) (count : ℕ) : Type 0 where
@@ -48,24 +46,24 @@ abbrev pub Plans : List ℕ → List ℕ → ℕ → ℕ → List ℕ → List �
 Plans card chart count m old new = (at : ℕ → ℕ → Bool) → Held card at chart count → Planned card at chart count m old new
 
 -- Document 01's number for each answer of the search for the start, and the steps of a plan of n words that come with it.
-abbrev pub start_number : Start → ℕ
-start_number (At m) = 0
-start_number Missing = 25
+abbrev pub start_number : Option ℕ → ℕ
+start_number (Some m) = 0
+start_number None = 25
 
-abbrev pub start_steps : ℕ → Start → ℕ
-start_steps n (At m) = plan_steps n
-start_steps n Missing = 0
+abbrev pub start_steps : ℕ → Option ℕ → ℕ
+start_steps n (Some m) = plan_steps n
+start_steps n None = 0
 
 -- Does the item of the start over all n words stand among the first count records?
 abbrev pub start_stands : List ℕ → ℕ → ℕ → Bool
 start_stands chart count n = among (item 0 0 n bare) (map item_of (chart_in chart count))
 
 -- The position that is answered, if one is, has it.
-abbrev pub StandsAt : List ℕ → ℕ → ℕ → Start → Type 0
-StandsAt chart count n (At m) = (m < count) × (item_of (record_at chart m) ≡ item 0 0 n bare)
-StandsAt chart count n Missing = Unit {0}
+abbrev pub StandsAt : List ℕ → ℕ → ℕ → Option ℕ → Type 0
+StandsAt chart count n (Some m) = (m < count) × (item_of (record_at chart m) ≡ item 0 0 n bare)
+StandsAt chart count n None = Unit {0}
 
 -- 0 where the item stands among the records, and 25 where it does not. Which position, if several records had it, is free.
-pub record Found (chart : List ℕ) (count n : ℕ) (s : Start) : Type 0 where
+pub record Found (chart : List ℕ) (count n : ℕ) (s : Option ℕ) : Type 0 where
   pub number : start_number s ≡ cond (start_stands chart count n) 0 25
   pub place : StandsAt chart count n s

@@ -1,15 +1,13 @@
 -- A card's refusal comes first; an accepted card leaves it to the line and the plan.
-use mathlib.Core.Path.{sym, ◌∙◌}
+use Rattle.std.proofs.lemmas.Result.{err_from_is_err_and}
 use Rattle.check_pairs.proofs.CheckLaws.{check-card}
 use Rattle.check_pairs.proofs.check.Goals as goal
 
-pub returns-then-number-ne0 : goal.returns-then-number-ne0
-returns-then-number-ne0 c =
+pub returns-in_err-check : goal.returns-in_err-check
+returns-in_err-check c =
     let a = c.args in
-    check-card a.card.now a.line.now a.plan.now c.card_number-number.ensures c.if-number-ne0.true
-
-pub check_line-requires : goal.check_line-requires
-check_line-requires c = sym c.card_number-number.ensures ∙ c.if-number-ne0.false
+    let (e, is, came) = err_from_is_err_and c.from_residual.result c.from_residual.ensures.1 in
+    rw (is, came) (check-card a.card.now a.line.now a.plan.now _ c.in_err-check.ensures.number)
 
 pub returns : goal.returns
-returns c = c.check_line.ensures
+returns c = rw c.in_ok-check.ensures.same at c.check_line.ensures

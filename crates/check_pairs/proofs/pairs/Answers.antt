@@ -1,23 +1,28 @@
--- Check's refusal comes first; a plan that passes has its pairs written.
-use mathlib.Core.Path.{◌≡◌, sym, ◌∙◌}
-use Rattle.layout.specs.Answers.{check_number}
-use Rattle.check_pairs.proofs.CheckLaws.{pairs-refused, pairs-passed}
-use Rattle.check_pairs.proofs.pairs.Goals.{Else-number-ne0}
+-- Check's refusals come first; a plan that passes has its pairs written.
+use mathlib.Core.Path.{sym}
+use Rattle.std.proofs.lemmas.Result.{err_from_is_err_and}
+use Rattle.check_pairs.proofs.CheckLaws.{check-card, pairs-refused, pairs-passed}
 use Rattle.check_pairs.proofs.pairs.Goals as goal
 
-passing : (c : Else-number-ne0) → let a = c.args in check_number a.card.now a.line.now a.plan.now ≡ 0
-passing c = sym c.check-number.ensures ∙ c.if-number-ne0.false
-
-pub returns-then-number-ne0 : goal.returns-then-number-ne0
-returns-then-number-ne0 c =
+pub returns-in_err-accepted : goal.returns-in_err-accepted
+returns-in_err-accepted c =
     let a = c.args in
-    pairs-refused a.card.now a.line.now a.plan.now a.room.now c.check-number.result c.check-number.ensures
-    c.if-number-ne0.true
+    let (e, is, came) = err_from_is_err_and c.from_residual.result c.from_residual.ensures.1 in
+    rw (is, came)
+    (pairs-refused a.card.now a.line.now a.plan.now a.room.now _ (check-card a.card.now a.line.now a.plan.now _ c.in_err-accepted.ensures.number))
+
+pub returns-in_err-check_line : goal.returns-in_err-check_line
+returns-in_err-check_line c =
+    let a = c.args in
+    let (e, is, came) = err_from_is_err_and c.from_residual-in_err-check_line.result c.from_residual-in_err-check_line.ensures.1 in
+    rw (is, came)
+    (pairs-refused a.card.now a.line.now a.plan.now a.room.now _ (rw c.in_ok-accepted.ensures.same at c.in_err-check_line.ensures))
 
 pub pairs_of-requires : goal.pairs_of-requires
-pairs_of-requires c = (c.args.line.now, passing (goal.at.pairs_of-requires c).Else-number-ne0)
+pairs_of-requires c = (c.args.line.now, sym c.in_ok-check_line.ensures)
 
 pub returns : goal.returns
 returns c =
     let a = c.args in
-    pairs-passed a.card.now a.line.now a.plan.now a.room.now (passing (goal.at.returns c).Else-number-ne0) c.pairs_of.ensures
+    let same = c.in_ok-accepted.ensures.same in
+    pairs-passed a.card.now a.line.now a.plan.now a.room.now (sym (rw same at c.in_ok-check_line.ensures)) (rw same at c.pairs_of.ensures)

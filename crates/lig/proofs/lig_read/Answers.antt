@@ -1,15 +1,22 @@
 -- Number, words, items and steps are those of the definition, and so fit 16 bits each.
 use native.Mathlib.Omega.{arith}
-use mathlib.Core.Path.{sym, subst}
-use Rattle.lig.specs.Exports.{ReadPacked}
 use Rattle.lig.proofs.Laws.{answer-fits, read-packed}
 use Rattle.lig.proofs.lig_read.Goals as goal
 
 pub pack-requires : goal.pack-requires
 pack-requires c =
-    let h = answer-fits _ _ _ _ _ _ _ c.read-a.ensures in
-    (omega (arith, h.number), omega (arith, h.words), omega (arith, h.items), omega (arith, h.steps))
+    let h = rw c.in-Some.is at (answer-fits _ _ _ _ _ _ _ c.in-Ok.ensures) in
+    (omega arith, omega (arith, h.words), omega (arith, h.items), omega (arith, h.steps))
 
-pub returns : goal.returns
-returns c =
-    subst (ReadPacked _ _ _ _ _ _) (sym c.pack.ensures) (read-packed _ _ _ _ _ _ c.read-a.result c.read-a.ensures)
+pub pack-requires-in-None : goal.pack-requires-in-None
+pack-requires-in-None c =
+    let h = answer-fits _ _ _ _ _ _ _ c.in-Ok.ensures in
+    (omega (arith, c.from-in-None.ensures), omega (arith, h.words), omega (arith, h.items), omega arith)
+
+pub returns-in-Some : goal.returns-in-Some
+returns-in-Some c =
+    rw c.pack.ensures (rw c.in-Some.is at (read-packed _ _ _ _ _ _ _ c.in-Ok.ensures))
+
+pub returns-in-None : goal.returns-in-None
+returns-in-None c =
+    rw (c.pack-in-None.ensures, c.from-in-None.ensures) (rw c.in-None.is at (read-packed _ _ _ _ _ _ _ c.in-Ok.ensures))

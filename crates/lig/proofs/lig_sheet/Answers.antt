@@ -8,8 +8,11 @@ use Rattle.lig.proofs.lig_sheet.Goals as goal
 
 pub pack_sheet-requires : goal.pack_sheet-requires
 pack_sheet-requires c =
-    let (number, line, records) = sheet-fits c.read_sheet-a.ensures in (omega arith, omega arith)
+    let (number, line, records) = sheet-fits c.in-Ok.ensures in (omega arith, omega arith)
 
-pub returns : goal.returns
-returns c =
-    subst (SheetPacked _ _ _ _ _ _) (sym c.pack_sheet.ensures) (sheet-packed c.read_sheet-a.ensures)
+pub returns-in-Ok : goal.returns-in-Ok
+returns-in-Ok c = subst (SheetPacked _ _ _ _ _ _) (sym c.pack_sheet.ensures) (sheet-packed c.in-Ok.ensures)
+
+pub returns-in-Err : goal.returns-in-Err
+returns-in-Err c =
+    subst (SheetPacked _ _ _ _ _ _) (sym (rw c.from.ensures at c.pack_sheet-in-Err.ensures)) (sheet-packed c.in-Err.ensures)

@@ -1,24 +1,17 @@
--- Letters stand from `at` up to `end`.
-use Rattle.layout.specs.Bytes.{byte_at}
-use Rattle.octets.proofs.LetterLaws.{letters-none, letters-more, small-letter}
+use Rattle.std.proofs.Common.{◌-◌, arith, drop, length, length-drop, rules, tests}
+use lib.Seq.{take_all}
+use Rattle.std.specs.Char.{is_ascii_lowercase}
+use Rattle.std.proofs.lemmas.Iterator.{YieldsList-from_slice}
+use Rattle.std.proofs.lemmas.Iterator.Search.{YieldsList-from_take_while}
+use Rattle.std.proofs.lemmas.Iterator.Consumers.{count_from_yields_List}
+use Rattle.octets.proofs.LetterLaws.{letters-run}
 use Rattle.octets.proofs.past_small.Goals as goal
 
-pub loop-end-init : goal.loop-end-init
-loop-end-init c = letters-none c.requires
-
-pub bounds-s-end : goal.bounds-s-end
-bounds-s-end c = c.loop-end-test.true
-
-pub returns-then-b-lt97 : goal.returns-then-b-lt97
-returns-then-b-lt97 c = c.loop-end.invariant
-
-pub returns-then-b-gt122 : goal.returns-then-b-gt122
-returns-then-b-gt122 c = c.loop-end.invariant
-
-pub loop-end-preserved : goal.loop-end-preserved
-loop-end-preserved c =
-    letters-more c.loop-end.invariant c.loop-end-test.true
-    (small-letter (byte_at c.args.s.now c.loop-end.end) c.if-b-lt97.false c.if-b-gt122.false)
-
 pub returns : goal.returns
-returns c = c.loop-end.invariant
+returns c =
+    let s = c.args.s.now in
+    let left = take_all (length s - c.args.at) (drop c.args.at s) (omega (arith, length-drop c.args.at s)) in
+    letters-run s c.args.at c.requires
+    (count_from_yields_List _ _ c.count.ensures.ran
+    (YieldsList-from_take_while _ is_ascii_lowercase (YieldsList-from_slice (drop c.args.at s) (cc left)) c.take_while.ensures.closure
+    c.take_while.ensures.done (λ x b q k. search (rules, tests))))

@@ -2,50 +2,61 @@
 -- then the second set and the column alike.
 use Prim.Native.Nat.{ℕ, ◌+◌, ◌*◌, ◌%◌, ◌^◌, ◌<◌}
 use native.Mathlib.Omega.{arith}
-use mathlib.Core.Path.{◌≡◌, refl, ◌∙◌, ap₂, subst}
+use mathlib.Core.Path.{◌≡◌, refl, sym, ◌∙◌, ap₂, subst}
+use mathlib.Core.Bool.{true, false}
+use Rattle.std.specs.Prelude.{Option, Some, None, is_some}
 use mathlib.Core.List.{List}
 use lib.ListN.{length, length-set}
-use Rattle.records.specs.Cells.{span_at}
+use Rattle.records.specs.Cells.{span_at, number_of}
 use Rattle.sets.specs.Places.{spans_at, first_at, second_at, row_at, column_at}
 use Rattle.sets.proofs.StoreLaws.{or_into}
 use Rattle.sets.proofs.RowLaws.{rows_at, Put, put-none, first-put, second-put, CellSets, sets-plain, sets-bare, noted}
-use Rattle.sets.proofs.note.Goals.{Joined-bare-ne0, After-wide-4, Joined-first-ne0, then-bare-ne0, else-bare-ne0, then-first-ne0, else-first-ne0}
+use Rattle.sets.proofs.note.Goals.{Joined-is_some, After-from-4, Joined-first-ne0, then-is_some, else-is_some, then-first-ne0, else-first-ne0}
 use Rattle.sets.proofs.note.Goals as goal
 
+-- The number of what may be missing is 0 where it is.
+some-number : (o : Option ℕ) → is_some o ≡ true → number_of o ≡ 0 → ⊥
+some-number None e = absurd cc
+some-number (Some m) e = λ z. omega arith
+
+none-number : (o : Option ℕ) → is_some o ≡ false → number_of o ≡ 0
+none-number None e = refl
+none-number (Some m) e = absurd cc
+
 -- The cell's two sets, where the arms have met.
-cell-sets : (c : Joined-bare-ne0) → CellSets c.args.sets.now c.args.cell.left c.args.bare c.if-bare-ne0.first c.if-bare-ne0.second
+cell-sets : (c : Joined-is_some) → CellSets c.args.sets.now c.args.cell.left (number_of c.args.bare) c.if-is_some.first c.if-is_some.second
 cell-sets c =
     let a = c.args in
-    subst (λ (x : ℕ). CellSets a.sets.now x a.bare c.if-bare-ne0.first c.if-bare-ne0.second) c.wide-a.ensures.0
-    (elim c.if-bare-ne0.branch [
-      | then-bare-ne0 w ↦ sets-bare a.sets.now c.wide-a.result a.bare w.if-bare-ne0.true w.first-is w.second-is
-      | else-bare-ne0 w ↦ sets-plain a.sets.now c.wide-a.result a.bare w.if-bare-ne0.false w.first-is w.second-is
+    subst (λ (x : ℕ). CellSets a.sets.now x (number_of a.bare) c.if-is_some.first c.if-is_some.second) c.from-a.ensures
+    (elim c.if-is_some.branch [
+      | then-is_some w ↦ sets-bare a.sets.now c.from-a.result (number_of a.bare) (some-number a.bare (sym c.is_some.ensures ∙ w.if-is_some.true)) w.first-is w.second-is
+      | else-is_some w ↦ sets-plain a.sets.now c.from-a.result (number_of a.bare) (none-number a.bare (sym c.is_some.ensures ∙ w.if-is_some.false)) w.first-is w.second-is
     ])
 
 -- The four places.
-module _ (c : After-wide-4) where
+module _ (c : After-from-4) where
   abbrev n : ℕ
   n = c.args.cell.words
 
   span-is : c.span_at.result ≡ span_at c.args.cell.from c.args.cell.to
-  span-is = c.span_at.ensures.0 ∙ ap₂ span_at c.wide.ensures.0 c.wide-2.ensures.0
+  span-is = c.span_at.ensures.0 ∙ ap₂ span_at c.from.ensures c.from-2.ensures
 
-  row-is : spans_at + n * (n + 1) + 2 * c.wide-3.result ≡ row_at n c.args.cell.from
-  row-is = omega (arith, rows_at n, c.wide-3.ensures)
+  row-is : spans_at + n * (n + 1) + 2 * c.from-3.result ≡ row_at n c.args.cell.from
+  row-is = omega (arith, rows_at n, c.from-3.ensures)
 
-  column-is : spans_at + n * (n + 1) + 2 * c.wide-4.result + 1 ≡ column_at n c.args.cell.to
-  column-is = omega (arith, rows_at n, c.wide-4.ensures)
+  column-is : spans_at + n * (n + 1) + 2 * c.from-4.result + 1 ≡ column_at n c.args.cell.to
+  column-is = omega (arith, rows_at n, c.from-4.ensures)
 
-  row-there : spans_at + n * (n + 1) + 2 * c.wide-3.result < length c.args.sets.now
+  row-there : spans_at + n * (n + 1) + 2 * c.from-3.result < length c.args.sets.now
   row-there = omega (arith, row-is, c.requires.4.long, c.requires.1, c.requires.2)
 
-  column-there : spans_at + n * (n + 1) + 2 * c.wide-4.result + 1 < length c.args.sets.now
+  column-there : spans_at + n * (n + 1) + 2 * c.from-4.result + 1 < length c.args.sets.now
   column-there = omega (arith, column-is, c.requires.4.long, c.requires.2)
 
 -- After the first set, and after the second.
-mid : (c : Joined-first-ne0) → Put c.args.cell.words (first_at c.args.cell.from c.args.cell.to) c.if-bare-ne0.first c.args.sets.now c.if-first-ne0.sets
+mid : (c : Joined-first-ne0) → Put c.args.cell.words (first_at c.args.cell.from c.args.cell.to) c.if-is_some.first c.args.sets.now c.if-first-ne0.sets
 mid c =
-    let w = (goal.at.Joined-first-ne0 c).After-wide-4 in
+    let w = (goal.at.Joined-first-ne0 c).After-from-4 in
     let i = c.args.cell.from in
     let j = c.args.cell.to in
     let first : spans_at + 2 * c.span_at.result ≡ first_at i j = omega (arith, span-is w) in
@@ -57,13 +68,13 @@ mid c =
 abbrev stored : Joined-first-ne0 → List ℕ
 stored c =
     let n = c.args.cell.words in
-    or_into (or_into c.if-first-ne0.sets (spans_at + 2 * c.span_at.result + 1) c.if-bare-ne0.second)
-    (spans_at + n * (n + 1) + 2 * c.wide-4.result + 1) ((1 * 2 ^ c.args.cell.from) % 2 ^ 64)
+    or_into (or_into c.if-first-ne0.sets (spans_at + 2 * c.span_at.result + 1) c.if-is_some.second)
+    (spans_at + n * (n + 1) + 2 * c.from-4.result + 1) ((1 * 2 ^ c.args.cell.from) % 2 ^ 64)
 
 last : (c : Joined-first-ne0)
-    → Put c.args.cell.words (second_at c.args.cell.from c.args.cell.to) c.if-bare-ne0.second c.if-first-ne0.sets (stored c)
+    → Put c.args.cell.words (second_at c.args.cell.from c.args.cell.to) c.if-is_some.second c.if-first-ne0.sets (stored c)
 last c =
-    let w = (goal.at.Joined-first-ne0 c).After-wide-4 in
+    let w = (goal.at.Joined-first-ne0 c).After-from-4 in
     let i = c.args.cell.from in
     let j = c.args.cell.to in
     let second : spans_at + 2 * c.span_at.result + 1 ≡ second_at i j = omega (arith, span-is w) in
@@ -71,15 +82,15 @@ last c =
 
 -- A row is as far in where the span's set was stored.
 pub bounds-sets-row : goal.bounds-sets-row
-bounds-sets-row c = simp length-set (row-there (goal.at.bounds-sets-row c).After-wide-4)
+bounds-sets-row c = simp length-set (row-there (goal.at.bounds-sets-row c).After-from-4)
 
 pub bounds-sets-row-then-first-ne0 : goal.bounds-sets-row-then-first-ne0
-bounds-sets-row-then-first-ne0 c = simp length-set (row-there (goal.at.bounds-sets-row-then-first-ne0 c).After-wide-4)
+bounds-sets-row-then-first-ne0 c = simp length-set (row-there (goal.at.bounds-sets-row-then-first-ne0 c).After-from-4)
 
 pub bounds-sets-column : goal.bounds-sets-column
 bounds-sets-column c =
     simp length-set
-    (omega (arith, (mid (goal.at.bounds-sets-column c).Joined-first-ne0).same_length, column-there (goal.at.bounds-sets-column c).After-wide-4))
+    (omega (arith, (mid (goal.at.bounds-sets-column c).Joined-first-ne0).same_length, column-there (goal.at.bounds-sets-column c).After-from-4))
 
 pub bounds-sets-column-then-second-ne0 : goal.bounds-sets-column-then-second-ne0
 bounds-sets-column-then-second-ne0 c =
@@ -87,19 +98,19 @@ bounds-sets-column-then-second-ne0 c =
     (omega (
       arith,
       (mid (goal.at.bounds-sets-column-then-second-ne0 c).Joined-first-ne0).same_length,
-      column-there (goal.at.bounds-sets-column-then-second-ne0 c).After-wide-4,
+      column-there (goal.at.bounds-sets-column-then-second-ne0 c).After-from-4,
     ))
 
 pub returns-then-second-ne0 : goal.returns-then-second-ne0
 returns-then-second-ne0 c =
     let cell = c.args.cell in
     let j = (goal.at.returns-then-second-ne0 c).Joined-first-ne0 in
-    noted cell.left cell.from cell.to c.args.bare c.requires.1 c.requires.2 (mid j) (last j)
-    (cell-sets (goal.at.returns-then-second-ne0 c).Joined-bare-ne0)
+    noted cell.left cell.from cell.to (number_of c.args.bare) c.requires.1 c.requires.2 (mid j) (last j)
+    (cell-sets (goal.at.returns-then-second-ne0 c).Joined-is_some)
 
 pub returns-else-second-ne0 : goal.returns-else-second-ne0
 returns-else-second-ne0 c =
     let cell = c.args.cell in
     let j = (goal.at.returns-else-second-ne0 c).Joined-first-ne0 in
-    noted cell.left cell.from cell.to c.args.bare c.requires.1 c.requires.2 (mid j) (put-none (mid j).rows c.if-second-ne0.false refl)
-    (cell-sets (goal.at.returns-else-second-ne0 c).Joined-bare-ne0)
+    noted cell.left cell.from cell.to (number_of c.args.bare) c.requires.1 c.requires.2 (mid j) (put-none (mid j).rows c.if-second-ne0.false refl)
+    (cell-sets (goal.at.returns-else-second-ne0 c).Joined-is_some)

@@ -1,8 +1,5 @@
 use Rattle.sets.proofs.MeetLaws.{ServedSoFar}
 use Rattle.sets.proofs.splits_of.Given as goal
 
-abbrev pub invariant-loop-rest : goal.invariant-loop-rest
-invariant-loop-rest l = ServedSoFar l.sets l.p l.like l.rest l.served
-
-abbrev pub decreases-loop-rest : goal.decreases-loop-rest
-decreases-loop-rest l = l.rest
+abbrev pub invariant-loop-k : goal.invariant-loop-k
+invariant-loop-k l = ServedSoFar l.sets l.p l.like l.k-iterator.rest l.served

@@ -1,25 +1,20 @@
--- The invariant: no record from m on is the start's; the measure is m, which falls at each turn.
--- At the end m is 0, so no record is.
-use Rattle.unfold.proofs.Starting.{passed_none, passed-more, answered, found_at, found_nowhere}
-use mathlib.Core.Bool.{true, false}
-use native.Mathlib.Omega.{arith}
+-- The first record from the end that passes, or none where each fails: the run went over all of them.
+use Rattle.std.proofs.Common.{rules, ℕ, ◌<◌, ◌≡◌, None, IfSome, false, ◌∙◌}
+use Rattle.std.proofs.iter.runs.Sources.{ranges}
+use Rattle.unfold.specs.Spine.{IsStart}
+use Rattle.unfold.proofs.Starting.{found, down}
+use Rattle.unfold.proofs.find_start.Goals.{After-find}
 use Rattle.unfold.proofs.find_start.Goals as goal
 
-pub loop-m-init : goal.loop-m-init
-loop-m-init c = passed_none
-
-pub is_start-requires : goal.is_start-requires
-is_start-requires c = omega (arith, c.requires, c.loop-m.invariant.below)
-
-pub returns-then-is_start : goal.returns-then-is_start
-returns-then-is_start c =
-    found_at _ _ _ (omega (arith, c.loop-m.invariant.below, c.loop-m-test.true))
-    (answered c.args.chart.now _ _ true c.is_start.ensures c.if-is_start.true)
-
-pub loop-m-preserved : goal.loop-m-preserved
-loop-m-preserved c =
-    passed-more c.loop-m.invariant c.loop-m-test.true
-    (answered c.args.chart.now _ _ false c.is_start.ensures c.if-is_start.false)
+each-fails : (c : After-find) → c.find.result ≡ None → let a = c.args in (m : ℕ) → m < a.count → IsStart a.chart.now m a.n false
+each-fails c e =
+    let a = c.args in
+    let (u, from, ends) = c.find.ensures.runs in
+    let (p, start, same) = c.rev.ensures.runs u u.seen from in
+    let (whole, fails) = rw e at ends in
+    let failed = fails (search rules) in
+    let each : (k : ℕ) → IfSome (p.at k) (λ m. IsStart a.chart.now m a.n false) = λ k. search (rules, failed k, same.0.2 k) in
+    down p a.count (λ m. IsStart a.chart.now m a.n false) start (same.1 ∙ whole) each
 
 pub returns : goal.returns
-returns c = found_nowhere _ _ _ λ k h e. c.loop-m.invariant.others k (omega (arith, c.loop-m-test.false)) h e
+returns c = let a = c.args in found a.chart.now a.count a.n c.find.result (search (rules, ranges)) (each-fails c)

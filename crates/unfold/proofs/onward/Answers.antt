@@ -8,7 +8,7 @@ pub overflow_sub-last : goal.overflow_sub-last
 overflow_sub-last c = omega (arith, can-take c.args.whole c.in-Take.is c.requires.takes)
 
 pub returns-in-Take : goal.returns-in-Take
-returns-in-Take c = taking _ _ _ c.in-Take.is c.requires.takes c.wide16-waiting.ensures.0
+returns-in-Take c = taking _ _ _ c.in-Take.is c.requires.takes c.from-waiting.ensures
 
 pub returns-in-Keep : goal.returns-in-Keep
 returns-in-Keep c = keeping _ _ _ c.in-Keep.is c.requires.above

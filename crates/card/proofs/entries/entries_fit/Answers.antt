@@ -3,13 +3,12 @@
 use mathlib.Core.Path.{sym, ◌∙◌}
 use native.Mathlib.Omega.{arith}
 use borrow.Author.Count.{below_none, below_more}
-use borrow.Author.Rules.{rules}
 use Rattle.layout.specs.Card.{word_count, entry_fits}
 use Rattle.layout.proofs.TestLaws.{all-below, some_below_lem}
 use Rattle.card.proofs.entries.entries_fit.Goals as goal
 
 pub loop-v-init : goal.loop-v-init
-loop-v-init c = (search rules, below_none _)
+loop-v-init c = below_none _
 
 pub returns-then-not-entry_fits : goal.returns-then-not-entry_fits
 returns-then-not-entry_fits c =
@@ -18,9 +17,9 @@ returns-then-not-entry_fits c =
     (sym c.entry_fits.ensures ∙ c.if-not-entry_fits.true)
 
 pub loop-v-preserved : goal.loop-v-preserved
-loop-v-preserved c = (search rules, below_more _ _ c.loop-v.invariant.1 (sym c.entry_fits.ensures ∙ c.if-not-entry_fits.false))
+loop-v-preserved c = below_more _ _ c.loop-v.invariant (sym c.entry_fits.ensures ∙ c.if-not-entry_fits.false)
 
 pub returns : goal.returns
 returns c =
     let card = c.args.card.now in
-    all-below (word_count card) (entry_fits card) λ k lt. c.loop-v.invariant.1 k (omega arith)
+    all-below (word_count card) (entry_fits card) λ k lt. c.loop-v.invariant k (omega arith)

@@ -1,11 +1,8 @@
-use Prim.Native.Nat.{ℕ, ◌≤◌, ◌<◌, ◌-◌}
+use Prim.Native.Nat.{ℕ, ◌<◌}
 use mathlib.Core.Bool.{true}
 use mathlib.Core.Path.{◌≡◌}
 use Rattle.layout.specs.Card.{entry_fits}
 use Rattle.card.proofs.entries.entries_fit.Given as goal
 
 abbrev pub invariant-loop-v : goal.invariant-loop-v
-invariant-loop-v l = (l.v ≤ l.words) × ((k : ℕ) → k < l.v → entry_fits l.card k ≡ true)
-
-abbrev pub decreases-loop-v : goal.decreases-loop-v
-decreases-loop-v l = l.words - l.v
+invariant-loop-v l = (k : ℕ) → k < l.v → entry_fits l.card k ≡ true

@@ -5,11 +5,8 @@ use Rattle.steps.proofs.StepCover.{Advancing}
 use Rattle.chart.proofs.CellLaws.{by_number}
 use Rattle.chart.proofs.cell.fill_items.Given as goal
 
-abbrev pub invariant-loop-rest : goal.invariant-loop-rest
-invariant-loop-rest l =
+abbrev pub invariant-loop-p : goal.invariant-loop-p
+invariant-loop-p l =
     (y : ℕ)
-    × Advancing l.cell (by_number l.card l.places l.cell l.set) 0 max_productions l.initial.chart l.initial.marks l.initial.cells l.count l.chart l.marks l.cells y l.total
-    × Walk l.set l.rest y
-
-abbrev pub decreases-loop-rest : goal.decreases-loop-rest
-decreases-loop-rest l = l.rest
+    × Advancing l.cell (by_number l.card.bytes.now l.words.places l.cell l.set) 0 max_productions l.initial.chart l.initial.marks l.initial.cells l.cell.base l.chart l.marks l.cells y l.total
+    × Walk l.set l.p-iterator.rest y

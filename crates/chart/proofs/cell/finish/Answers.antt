@@ -1,11 +1,10 @@
 -- `chart::cell::finish` meets its contract. The loop's invariant is the contract itself, for the records from the base to m.
--- The measure is how many records are left.
-use Prim.Native.Nat.{◌+◌, ◌/◌, ◌<◌}
+use Prim.Native.Nat.{◌/◌, ◌<◌}
 use native.Mathlib.Omega.{arith}
 use mathlib.Core.Path.{◌≡◌, sym, ◌∙◌, ap, subst}
 use lib.ListN.{length, set}
 use Rattle.records.specs.Room.{foot_there, foot_from, number_there}
-use Rattle.steps.proofs.StepLaws.{foot-fits, record-there}
+use Rattle.steps.proofs.StepLaws.{foot-fits}
 use Rattle.records.proofs.RoomLaws.{number-there}
 use Rattle.records.proofs.TableLaws.{number-within}
 use Rattle.chart.proofs.FinishLaws.{found-bare, found-foot, finish-start, finish-turn, finish-end}
@@ -13,8 +12,7 @@ use Rattle.chart.proofs.cell.finish.Goals.{In-loop-m, then-foot-eq0, else-foot-e
 use Rattle.chart.proofs.cell.finish.Goals as goal
 
 -- The byte of a number that was read stands among the marks.
-inside : (c : In-loop-m)
-    → number_there c.args.chart.now c.loop-m.m / 8 < length c.loop-m.marks
+inside : (c : In-loop-m) → number_there c.args.chart.now c.loop-m.m / 8 < length c.loop-m.marks
 inside c =
     let loop = c.loop-m in
     let w = c.requires.0 in
@@ -26,22 +24,10 @@ inside c =
       number-there n N chart c.args.count w.exact loop.m c.loop-m-test.true,
       number-within n N (foot_there chart loop.m) (foot-fits loop.m w c.loop-m-test.true),
       w.marks_there,
-      loop.invariant.2.same_length,
     )
 
 pub loop-m-init : goal.loop-m-init
-loop-m-init c = (
-  omega arith,
-  c.requires.1,
-  finish-start c.args.chart.now c.args.cell.base c.args.marks.now,
-)
-
-pub foot_at-foot-requires : goal.foot_at-foot-requires
-foot_at-foot-requires c = record-there c.loop-m.m c.requires.0 c.loop-m-test.true
-
-pub number_at-number-requires : goal.number_at-number-requires
-number_at-number-requires c =
-    record-there c.loop-m.m c.requires.0 c.loop-m-test.true
+loop-m-init c = finish-start c.args.chart.now c.args.cell.base c.args.marks.now
 
 pub unmark-requires : goal.unmark-requires
 unmark-requires c =
@@ -53,23 +39,13 @@ loop-m-preserved c =
     let foot = c.foot_at-foot in
     let φ = foot_there c.args.chart.now loop.m in
     let read : foot_from foot.result ≡ φ = ap foot_from foot.ensures in
-    let m = loop.m + 1 in (
-      omega (arith, loop.invariant.0),
-      omega (arith, c.loop-m-test.true),
-      finish-turn c.args.chart.now c.args.cell.base loop.invariant.0 loop.invariant.2
-          (inside (goal.at.loop-m-preserved c).In-loop-m)
-          (c.unmark.ensures ∙ ap (λ k. set loop.marks (k / 8) 0) c.number_at-number.ensures)
-          (elim c.if-foot-eq0.branch [
-            | then-foot-eq0 w ↦ w.bare-is ∙ found-bare foot.result φ m loop.bare read w.if-foot-eq0.true
-            | else-foot-eq0 w ↦ w.bare-is ∙ found-foot foot.result φ m loop.bare read w.if-foot-eq0.false
-          ]),
-    )
-
-pub shape_of-marks : goal.shape_of-marks
-shape_of-marks c = c.loop-m.invariant.2.same_length
+    finish-turn c.args.chart.now c.args.cell.base (omega arith) loop.invariant
+    (inside (goal.at.loop-m-preserved c).In-loop-m)
+    (c.unmark.ensures ∙ ap (λ k. set loop.marks (k / 8) 0) c.number_at-number.ensures)
+    (elim c.if-foot-eq0.branch [
+      | then-foot-eq0 w ↦ w.bare-is ∙ found-bare foot.result φ loop.m loop.bare read w.if-foot-eq0.true
+      | else-foot-eq0 w ↦ w.bare-is ∙ found-foot foot.result φ loop.m loop.bare read w.if-foot-eq0.false
+    ])
 
 pub returns : goal.returns
-returns c =
-    let loop = c.loop-m in
-    finish-end c.args.chart.now c.args.cell.base loop.invariant.1 c.loop-m-test.false
-    loop.invariant.2
+returns c = finish-end c.args.chart.now c.args.cell.base (omega arith) (omega arith) c.loop-m.invariant

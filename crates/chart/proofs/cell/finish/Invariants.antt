@@ -1,12 +1,5 @@
-use Prim.Native.Nat.{◌-◌, ◌≤◌}
 use Rattle.chart.specs.Cell.{Finished}
 use Rattle.chart.proofs.cell.finish.Given as goal
 
 abbrev pub invariant-loop-m : goal.invariant-loop-m
-invariant-loop-m l =
-    (l.cell.base ≤ l.m)
-    × (l.m ≤ l.count)
-    × Finished l.chart l.cell.base l.m l.initial.marks l.marks (record { from = l.cell.base; to = l.m; bare = l.bare })
-
-abbrev pub decreases-loop-m : goal.decreases-loop-m
-decreases-loop-m l = l.count - l.m
+invariant-loop-m l = Finished l.chart l.cell.base l.m l.initial.marks l.marks (record { from = l.cell.base; to = l.m; bare = l.bare })

@@ -9,23 +9,23 @@ use Rattle.chart.proofs.sized.build_with.Goals as goal
 pub classify-requires : goal.classify-requires
 classify-requires c =
     let p = c.requires in
-    (p.0.accepted, omega (arith, p.2.sets_there), p.2.sets_zero)
+    (omega (arith, p.2.long.sets_there), p.2.sets_zero)
 
 pub close_all-requires : goal.close_all-requires
 close_all-requires c =
     let a = c.args in
     let p = c.requires in
-    let of = c.of.ensures in
+    let names = c.nonterminals.ensures.counts in
     record {
       accepted = p.0.accepted;
-      names = of.nonterminals;
-      between = rw of.nonterminals
-          (tables_start a.card.now a.places.now a.n a.room p.0 p.1 p.2
+      names = names;
+      between = rw names
+          (tables_start a.card.bytes.now a.words.now.places a.words.now.count a.room p.0 p.1 p.2
           c.classify.ensures.0 c.classify.ensures.1);
     }
 
 pub returns : goal.returns
 returns c =
     let a = c.args in
-    closed-as a.room a.n (grammar_of a.card.now) (word_test a.places.now) c.of.ensures.nonterminals
+    closed-as a.room a.words.now.count (grammar_of a.card.bytes.now) (word_test a.words.now.places) c.nonterminals.ensures.counts
     c.close_all.ensures

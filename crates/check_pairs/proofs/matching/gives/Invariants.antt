@@ -1,10 +1,8 @@
-use Rattle.check_pairs.proofs.Passed.{Passed}
-use Rattle.check_pairs.proofs.MatchLaws.{Counting}
+use Prim.Native.Nat.{◌+◌, ◌≤◌}
+use mathlib.Core.Path.{◌≡◌}
+use lib.ListN.{length}
+use Rattle.check_pairs.proofs.MatchLaws.{pairs_from}
 use Rattle.check_pairs.proofs.matching.gives.Given as goal
 
-abbrev pub invariant-loop-left : goal.invariant-loop-left
-invariant-loop-left l =
-    (x : Passed l.card l.plan) × Counting l.card l.plan x l.count l.left
-
-abbrev pub decreases-loop-left : goal.decreases-loop-left
-decreases-loop-left l = l.left
+abbrev pub invariant-loop-k : goal.invariant-loop-k
+invariant-loop-k l = (l.count ≤ l.k) × (l.count + length (pairs_from l.card.bytes.now l.plan l.k) ≡ length (pairs_from l.card.bytes.now l.plan 0))

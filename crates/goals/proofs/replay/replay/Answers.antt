@@ -1,71 +1,40 @@
--- The invariant: the arrays show where the model stands, and the bytes that are left pass from there exactly when all pass from the start.
--- The measure is the number of bytes left. Each need is a law of that invariant.
-use Prim.Native.Nat.{◌+◌, ◌≤◌}
+-- The invariant: the struct shows where the model stands, and the bytes that are left pass from there exactly when all pass from the start.
+-- Each need is a law of that invariant.
 use native.Mathlib.Omega.{arith}
 use mathlib.Core.Path.{◌∙◌}
-use lib.ListN.{length}
 use Rattle.layout.proofs.TestLaws.{same_answer, tests}
-use Rattle.card.proofs.Accepted.{view-table}
-use Rattle.goals.proofs.ReplayLaws.{replay-start, replay-within, replay-short, replay-over, replay-stuck, replay-on}
-use Rattle.goals.proofs.replay.replay.Goals.{Else-plan-at-lt4}
+use Rattle.goals.proofs.ReplayLaws.{replay-ragged, replay-start, replay-within, replay-over, replay-stuck, replay-on}
 use Rattle.goals.proofs.replay.replay.Goals as goal
 
-four-left : (c : Else-plan-at-lt4) → c.loop-at.at + 4 ≤ length c.args.plan.now
-four-left c = omega (arith, c.if-plan-at-lt4.false)
+pub returns-then-plan-ne0 : goal.returns-then-plan-ne0
+returns-then-plan-ne0 c = let a = c.args in replay-ragged a.card.bytes.now a.words.now.places a.words.now.count a.plan.now c.if-plan-ne0.true
 
-pub production_table-requires : goal.production_table-requires
-production_table-requires c = (c.of-view.ensures.short_header, c.of-view.ensures.few_words)
-
-pub loop-at-init : goal.loop-at-init
-loop-at-init c =
-    let a = c.args in
-    let view = c.of-view.ensures in (
-      replay-start a.card.now a.places.now a.n a.plan.now c.requires.1,
-      record {
-        accepted = c.requires.0;
-        starts = c.production_table.ensures ∙ view-table view;
-        counted = view.productions;
-      },
-    )
-
-pub returns-then-plan-at-lt4 : goal.returns-then-plan-at-lt4
-returns-then-plan-at-lt4 c =
-    let a = c.args in
-    let l = c.loop-at in
-    replay-short a.card.now a.places.now a.n a.plan.now l.names l.ends l.bases l.stack l.stand l.at l.invariant.0 c.loop-at-test.true c.if-plan-at-lt4.true
+pub loop-k-init : goal.loop-k-init
+loop-k-init c = let a = c.args in rw c.start-goals.ensures (replay-start a.card.bytes.now a.words.now.places a.words.now.count a.plan.now c.args.words.now.some)
 
 pub advance-requires : goal.advance-requires
 advance-requires c =
     let a = c.args in
-    let l = c.loop-at in
-    (l.invariant.1, replay-within a.card.now a.places.now a.n a.plan.now l.names l.ends l.bases l.stack l.stand l.at l.invariant.0 c.requires.2)
+    let l = c.loop-k in
+    replay-within a.card.bytes.now a.words.now.places a.words.now.count a.plan.now l.goals l.k l.invariant a.words.now.few
 
-pub returns-in_default : goal.returns-in_default
-returns-in_default c =
+pub returns-then-not-advance : goal.returns-then-not-advance
+returns-then-not-advance c =
     let a = c.args in
-    let l = c.loop-at in
-    let step = c.step_at-step in
-    replay-stuck a.card.now a.places.now a.n a.plan.now l.names l.ends l.bases l.stack l.stand l.at l.invariant.0
-    step.result (four-left (goal.at.returns-in_default c).Else-plan-at-lt4) step.ensures _ _ _ _ c.advance.result
-    c.advance.ensures c.in_default.is
+    let l = c.loop-k in
+    replay-stuck a.card.bytes.now a.words.now.places a.words.now.count a.plan.now l.goals l.k l.invariant c.step_at.result (omega arith) c.step_at.ensures
+    c.advance.new.self (rw c.if-not-advance.true at c.advance.ensures)
 
-pub overflow_add-at : goal.overflow_add-at
-overflow_add-at c = omega (arith, four-left (goal.at.overflow_add-at c).Else-plan-at-lt4, c.well_formed.1.1.1.0.0)
-
-pub loop-at-preserved : goal.loop-at-preserved
-loop-at-preserved c =
+pub loop-k-preserved : goal.loop-k-preserved
+loop-k-preserved c =
     let a = c.args in
-    let l = c.loop-at in
-    let step = c.step_at-step in (
-      replay-on a.card.now a.places.now a.n a.plan.now l.names l.ends l.bases l.stack l.stand l.at l.invariant.0
-          step.result (four-left (goal.at.loop-at-preserved c).Else-plan-at-lt4) step.ensures _ _ _ _ c.advance.result
-          c.advance.ensures _ c.in-To.is,
-      l.invariant.1,
-    )
+    let l = c.loop-k in
+    replay-on a.card.bytes.now a.words.now.places a.words.now.count a.plan.now l.goals l.k l.invariant c.step_at.result (omega arith) c.step_at.ensures
+    c.advance.new.self (rw c.if-not-advance.false at c.advance.ensures)
 
 pub returns : goal.returns
 returns c =
     let a = c.args in
-    let l = c.loop-at in
+    let l = c.loop-k in
     same_answer _ (omega (arith, tests)) (omega (arith, tests))
-    ∙ replay-over a.card.now a.places.now a.n a.plan.now l.names l.ends l.bases l.stack l.stand l.at l.invariant.0 c.loop-at-test.false
+    ∙ replay-over a.card.bytes.now a.words.now.places a.words.now.count a.plan.now l.goals l.k l.invariant c.if-plan-ne0.false c.loop-k-test.false

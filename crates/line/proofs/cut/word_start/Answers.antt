@@ -1,16 +1,17 @@
--- Only spaces stand from `at` up to `i`, so the words from `at` on are those from `i` on. The first other byte starts a word, or the
--- line ends.
-use Rattle.line.proofs.WordLaws.{skipped-none, skipped-more, starts-at-letter, starts-nowhere}
+-- As many spaces are passed as the rest of the line begins with.
+use Rattle.std.proofs.Common.{◌-◌, arith, drop, length, length-drop, rules, tests}
+use lib.Seq.{take_all}
+use Rattle.std.proofs.lemmas.Iterator.{YieldsList-from_slice}
+use Rattle.std.proofs.lemmas.Iterator.Search.{YieldsList-from_take_while}
+use Rattle.std.proofs.lemmas.Iterator.Consumers.{count_from_yields_List}
+use Rattle.line.proofs.WordLaws.{starts-past}
 use Rattle.line.proofs.cut.word_start.Goals as goal
 
-pub loop-i-init : goal.loop-i-init
-loop-i-init c = skipped-none c.requires
-
-pub returns-then-line-i-ne-SPACE : goal.returns-then-line-i-ne-SPACE
-returns-then-line-i-ne-SPACE c = starts-at-letter c.loop-i.invariant c.if-line-i-ne-SPACE.true
-
-pub loop-i-preserved : goal.loop-i-preserved
-loop-i-preserved c = skipped-more c.loop-i.invariant c.loop-i-test.true c.if-line-i-ne-SPACE.false
-
 pub returns : goal.returns
-returns c = starts-nowhere c.loop-i.invariant c.loop-i-test.false
+returns c =
+    let line = c.args.line.now in
+    let left = take_all (length line - c.args.at) (drop c.args.at line) (omega (arith, length-drop c.args.at line)) in
+    starts-past line c.args.at c.requires
+    (count_from_yields_List _ _ c.count.ensures.ran
+    (YieldsList-from_take_while _ _ (YieldsList-from_slice (drop c.args.at line) (cc left)) c.take_while.ensures.closure
+    c.take_while.ensures.done (λ x b q k. search (rules, tests))))

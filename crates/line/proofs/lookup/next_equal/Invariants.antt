@@ -1,16 +1,12 @@
 use Prim.Native.Nat.{◌-◌}
-use lib.ListN.{length}
 use Rattle.line.proofs.LookupLaws.{Looking, Comparing}
 use Rattle.line.proofs.lookup.next_equal.Given as goal
 
 abbrev pub invariant-loop-i : goal.invariant-loop-i
-invariant-loop-i l = Comparing l.card l.word l.here l.i
-
-abbrev pub decreases-loop-i : goal.decreases-loop-i
-decreases-loop-i l = length l.word - l.i
+invariant-loop-i l = Comparing l.card.bytes.now l.word l.here l.i
 
 abbrev pub invariant-entry : goal.invariant-entry
-invariant-entry l = Looking l.card l.word l.from l.to l.next
+invariant-entry l = Looking l.card.bytes.now l.word l.from l.to l.next
 
 abbrev pub decreases-entry : goal.decreases-entry
 decreases-entry l = l.to - l.next

@@ -1,8 +1,8 @@
 use Rattle.lines.proofs.LinesLaws.{none_yet, one_more}
 use Rattle.lines.proofs.answer.put_answers.Goals as goal
 
-pub loop-next-init : goal.loop-next-init
-loop-next-init c = none_yet c.args.card.now c.args.lines.now c.args.out.now
+pub loop-line-init : goal.loop-line-init
+loop-line-init c = none_yet c.args.card.now c.args.lines.now c.args.out.now cc
 
-pub loop-next-preserved : goal.loop-next-preserved
-loop-next-preserved c = one_more c.loop-next.invariant c.line_end-end.ensures c.put_answer-size.ensures
+pub loop-line-preserved : goal.loop-line-preserved
+loop-line-preserved c = one_more c.loop-line.invariant c.in-Some.ensures.steps c.put_answer-size.ensures

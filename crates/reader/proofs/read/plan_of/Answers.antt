@@ -1,17 +1,24 @@
--- The search for the start decides: its position meets what unfolding asks, and the plan is what unfolding writes.
--- Where there is no start, the plan room stays as it was. The laws are those of Planning.antt.
-use native.Mathlib.Omega.{arith}
-use Rattle.reader.proofs.Planning.{start-asked, start-planned, no_start}
+-- The search for the start decides: its position has all that unfolding asks, and the plan is what unfolding writes. Where there is no start,
+-- the plan room stays as it was.
+use Rattle.std.specs.Prelude.{ℕ, ◌*◌, ◌-◌, ◌≡◌, Some, None, List}
+use Rattle.std.proofs.Common.{arith}
+use mathlib.Core.Path.{refl}
+use Rattle.unfold.specs.Unfold.{Plans, Found}
+use Rattle.reader.specs.Ended.{PlanOf}
 use Rattle.reader.proofs.read.plan_of.Goals as goal
 
 pub unfold-requires : goal.unfold-requires
 unfold-requires c =
-    start-asked c.find_start-start.ensures c.requires c.in-At.is
+    let r = c.requires in
+    let (inside, whole) = c.in-Some.ensures.place in
+    record { accepted = r.accepted; at = r.at; held = r.held; inside = inside; whole = whole; room = r.room; short = r.short }
 
-pub returns-in-At : goal.returns-in-At
-returns-in-At c =
-    start-planned c.find_start-start.ensures c.in-At.is c.unfold.ensures
-    (omega arith)
+planned : {card chart old new : List ℕ} {n count m s : ℕ} → Found chart count n (Some m) → Plans card chart count m old new → s ≡ 2 * n - 1
+    → PlanOf card chart n count old new (record { words = n; items = count; steps = Some s })
+planned {m = m} found plan steps = record { start = Some m; searched = found; answer = rw steps; plan = plan }
 
-pub returns-in-Missing : goal.returns-in-Missing
-returns-in-Missing c = no_start c.find_start-start.ensures c.in-Missing.is
+pub returns : goal.returns
+returns c = planned c.in-Some.ensures c.unfold.ensures (omega arith)
+
+pub returns-in_default : goal.returns-in_default
+returns-in_default c = record { start = None; searched = rw c.in_default.is at c.find_start.ensures; answer = refl; plan = λ at held. refl }

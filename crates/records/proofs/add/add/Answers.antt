@@ -1,96 +1,64 @@
 -- `add::add` meets its contract. The mark that `seen` finds says whether the item is there, so each of the three returns is one case of
 -- adding a record: it is there, the room is full, or it is written after the others.
-use Prim.Native.Nat.{ℕ, ◌+◌, ◌/◌, ◌≤◌, ◌<◌}
+use Prim.Native.Nat.{ℕ, ◌/◌, ◌<◌}
 use native.Mathlib.Omega.{arith}
 use mathlib.Core.Path.{◌≡◌, sym, ◌∙◌, ap, subst}
-use mathlib.Core.Bool.{Bool, true, false}
-use mathlib.Core.List.{List, [], ◌∷◌}
+use mathlib.Core.Bool.{Bool}
 use lib.ListN.{length}
-use Rattle.records.specs.declared.record.OpenCell.{OpenCell}
-use Rattle.records.specs.declared.record.Foot.{Foot}
-use Rattle.records.specs.declared.record.Origin.{Origin}
 use Rattle.records.specs.Room.{foot_from, record_from, mark_at, mark_of, with_number, MarkAdded}
-use Rattle.records.specs.Filling.{WorksOn, FootGiven, AddedTo}
 use Rattle.records.proofs.TableLaws.{number-within, number_small}
 use Rattle.records.proofs.RoomLaws.{placed}
 use Rattle.records.proofs.AddLaws.{added-seen, added_full, added_new}
+use Rattle.records.proofs.add.add.Goals.{Start, After-seen}
 use Rattle.records.proofs.add.add.Goals as goal
 
--- At the parts that are given: the number's mark lies within the marks and is the foot's, and there are three cases of adding.
-module _ (cell : OpenCell) (foot : Foot) (number : ℕ) (old marks : List ℕ) (count : ℕ) (works : WorksOn cell old marks count)
-    (given : FootGiven cell foot number) where
-  inside : number / 8 < length marks
-  inside = omega (arith, given.numbered, number-within cell.words cell.symbols (foot_from foot) given.fits, works.marks_there)
+-- The number's mark lies within the marks, and is the foot's.
+inside : (c : Start) → c.args.number / 8 < length c.args.marks.now
+inside c =
+    let a = c.args in
+    let (works, given) = c.requires in
+    omega (arith, given.numbered, number-within a.cell.words a.cell.symbols (foot_from a.foot) given.fits, works.marks_there)
 
-  abbrev Marks : Bool → Type 0
-  Marks b = mark_of cell.words cell.symbols marks (foot_from foot) ≡ b
-
-  looked : {x b : Bool} → x ≡ mark_at marks number → x ≡ b → Marks b
-  looked e d = ap (mark_at marks) (sym given.numbered) ∙ (sym e ∙ d)
-
-  small : number < 65536
-  small =
-      omega (
-        arith,
-        given.numbered,
-        number_small cell.words cell.symbols (foot_from foot) works.words_fit works.symbols_fit given.fits,
-      )
-
-  module _ (o : Origin) where
-    -- The room and its marks after the call, and its count.
-    abbrev After : List ℕ → List ℕ → ℕ → Type 0
-    After new new_marks after = AddedTo cell (record_from cell foot o ∷ []) old marks count new new_marks after
-
-    is-there : Marks true → After old marks count
-    is-there =
-        added-seen cell.words cell.symbols cell.room cell.left cell.from cell.to old marks count
-        works (foot_from foot) o.production o.side o.dependent o.continuation given.fits
-
-    is-full : Marks false → cell.room ≤ count → After old marks (cell.room + 1)
-    is-full =
-        added_full cell.words cell.symbols cell.room cell.left cell.from cell.to old marks count
-        works (foot_from foot) o.production o.side o.dependent o.continuation given.fits
-
-    is-new : {new new_marks : List ℕ} → count < cell.room → new ≡ placed old count (with_number number (record_from cell foot o))
-        → MarkAdded number marks new_marks → Marks false → After new new_marks (count + 1)
-    is-new {new} {new_marks} h so more =
-        let e = given.numbered in
-        added_new cell.words cell.symbols cell.room cell.left cell.from cell.to old marks count
-        works (foot_from foot) o.production o.side o.dependent o.continuation given.fits new new_marks h
-        (so ∙ ap (λ (k : ℕ). placed old count (with_number k (record_from cell foot o))) e)
-        (subst (λ (k : ℕ). MarkAdded k marks new_marks) e more)
+marked : (c : After-seen) {b : Bool} → c.seen.result ≡ b
+    → mark_of c.args.cell.words c.args.cell.symbols c.args.marks.now (foot_from c.args.foot) ≡ b
+marked c e = ap (mark_at c.args.marks.now) (sym c.requires.1.numbered) ∙ (sym c.seen.ensures ∙ e)
 
 pub seen-requires : goal.seen-requires
-seen-requires c =
-    let a = c.args in
-    inside a.cell a.foot a.number a.chart.now a.marks.now a.count c.requires.0 c.requires.1
+seen-requires c = inside (goal.at.seen-requires c).Start
 
 pub returns-then-seen : goal.returns-then-seen
 returns-then-seen c =
-    let a = c.args in
-    is-there a.cell a.foot a.number a.chart.now a.marks.now a.count c.requires.0 c.requires.1 a.origin
-    (looked a.cell a.foot a.number a.chart.now a.marks.now a.count c.requires.0 c.requires.1 c.seen.ensures c.if-seen.true)
+    let (works, given) = c.requires in
+    let there = marked (goal.at.returns-then-seen c).After-seen c.if-seen.true in
+    record { added = added-seen _ _ _ _ _ _ _ _ _ works _ _ _ _ _ given.fits there; within = works.count_fits }
 
 pub returns-then-cell-count : goal.returns-then-cell-count
 returns-then-cell-count c =
-    let a = c.args in
-    is-full a.cell a.foot a.number a.chart.now a.marks.now a.count c.requires.0 c.requires.1 a.origin
-    (looked a.cell a.foot a.number a.chart.now a.marks.now a.count c.requires.0 c.requires.1 c.seen.ensures c.if-seen.false)
-    c.if-cell-count.true
+    let (works, given) = c.requires in
+    let new = marked (goal.at.returns-then-cell-count c).After-seen c.if-seen.false in
+    record { added = added_full _ _ _ _ _ _ _ _ _ works _ _ _ _ _ given.fits new c.if-cell-count.true; within = tt }
 
 pub mark-requires : goal.mark-requires
-mark-requires c =
-    let a = c.args in
-    inside a.cell a.foot a.number a.chart.now a.marks.now a.count c.requires.0 c.requires.1
+mark-requires c = inside (goal.at.mark-requires c).Start
 
 pub overflow_cast-number : goal.overflow_cast-number
 overflow_cast-number c =
-    let a = c.args in
-    omega (arith, small a.cell a.foot a.number a.chart.now a.marks.now a.count c.requires.0 c.requires.1)
+    let cell = c.args.cell in
+    let (works, given) = c.requires in
+    omega (
+      arith,
+      given.numbered,
+      number_small cell.words cell.symbols (foot_from c.args.foot) works.words_fit works.symbols_fit given.fits,
+    )
 
 pub returns : goal.returns
 returns c =
     let a = c.args in
-    is-new a.cell a.foot a.number a.chart.now a.marks.now a.count c.requires.0 c.requires.1 a.origin
-    c.if-cell-count.false c.put_record.ensures c.mark.ensures
-    (looked a.cell a.foot a.number a.chart.now a.marks.now a.count c.requires.0 c.requires.1 c.seen.ensures c.if-seen.false)
+    let (works, given) = c.requires in
+    let new = marked (goal.at.returns c).After-seen c.if-seen.false in
+    let so = c.put_record.ensures ∙ ap (λ (k : ℕ). placed a.chart.now a.count (with_number k (record_from a.cell a.foot a.origin))) given.numbered in
+    let more = subst (λ (k : ℕ). MarkAdded k a.marks.now c.mark.new.marks) given.numbered c.mark.ensures in
+    record {
+      added = added_new _ _ _ _ _ _ _ _ _ works _ _ _ _ _ given.fits _ _ c.if-cell-count.false so more new;
+      within = omega arith;
+    }

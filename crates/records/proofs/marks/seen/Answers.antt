@@ -4,4 +4,4 @@ use Rattle.records.proofs.marks.seen.Goals as goal
 
 pub returns : goal.returns
 returns c =
-    mark-seen c.args.marks.now c.args.number c.bit_of-bit.ensures
+    mark-seen c.args.marks.now c.args.number c.bit_of.ensures

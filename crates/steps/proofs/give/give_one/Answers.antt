@@ -54,7 +54,7 @@ filling c =
 pub returns-then-given-g : goal.returns-then-given-g
 returns-then-given-g c =
     let q = c.requires in
-    advanced-kept q.0 (given-none q.0.works _ _ q.1 q.0.begun _ _ (omega (arith, c.if-given-g.true)))
+    advanced-kept q.0 record { added = given-none q.0.works _ _ q.1 q.0.begun _ _ (omega (arith, c.if-given-g.true)); within = q.0.works.count_fits }
 
 pub is_covered-requires : goal.is_covered-requires
 is_covered-requires c =
@@ -76,9 +76,9 @@ range_of-range-requires c =
     let k = at.After-is_covered in
     (note-fits (filling k) (continuations at.After-number_at-number (filling k).indexed refl)).1
 
-pub continue_all-requires : goal.continue_all-requires
-continue_all-requires c =
-    let at = goal.at.continue_all-requires c in
+pub take_over-requires : goal.take_over-requires
+take_over-requires c =
+    let at = goal.at.take_over-requires c in
     let k = at.After-is_covered in
     let n = at.After-number_at-number in
     let a = c.args in (
@@ -94,4 +94,4 @@ returns c =
     let n = at.After-number_at-number in
     let h = c.requires.0 in
     advanced-looked h (continuations n h.indexed refl) c.is_covered.ensures.1
-    (advanced-as (given n (filling k).indexed c.range_of-range.ensures) c.continue_all.ensures)
+    (advanced-as (given n (filling k).indexed c.range_of-range.ensures) c.take_over.ensures)

@@ -5,7 +5,7 @@ use mathlib.Core.Path.{refl, subst}
 use Rattle.card.specs.Productions.{action_from}
 use Rattle.records.specs.Filling.{RangeAt}
 use Rattle.steps.specs.Fits.{ActionFits}
-use Rattle.steps.proofs.StepLaws.{added-as}
+use Rattle.steps.proofs.StepLaws.{added-to-as}
 use Rattle.steps.proofs.StepCandidates.{to_below, cell-range, foot-made, foot-numbered, with-index, by-take, by-keep, by-give}
 use Rattle.steps.proofs.StepCover.{advanced-kept, advanced-as}
 use Rattle.steps.proofs.step.by_action.Goals.{After-range_of-range, In-Take}
@@ -37,7 +37,7 @@ take_one-requires c =
       record {
         fits = foot-made _ _ _ _ _ _ l u c.requires.2;
         writable = with-index _ l;
-        numbered = foot-numbered _ _ _ _ _ _ l (dependents r).number c.wide.ensures.0 refl;
+        numbered = foot-numbered _ _ _ _ _ _ l (dependents r).number c.from.ensures refl;
       },
     )
 
@@ -56,7 +56,7 @@ pub returns-in-Take : goal.returns-in-Take
 returns-in-Take c =
     let at = goal.at.returns-in-Take c in
     advanced-kept c.requires.0
-    (added-as
+    (added-to-as
     (by-take _ _ _ _ _ _ _ _ _ c.range_of-range.result (dependents at.After-range_of-range).stands c.in-Take.is (taken at.In-Take).0)
     c.take_one.ensures)
 

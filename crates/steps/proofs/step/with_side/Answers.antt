@@ -3,7 +3,7 @@ use mathlib.Core.Path.{◌≡◌, sym}
 use Rattle.chart_model.specs.Build.{bare_places}
 use Rattle.records.specs.Cells.{bare_in}
 use Rattle.records.specs.Filling.{begun_with}
-use Rattle.steps.proofs.StepLaws.{added_none, added-as}
+use Rattle.steps.proofs.StepLaws.{nothing-added, added-to-as}
 use Rattle.steps.proofs.StepCandidates.{range-bares, no_bare, one-bare}
 use Rattle.steps.proofs.StepCover.{advanced-kept, advanced-as}
 use Rattle.steps.proofs.step.with_side.Goals.{After-range_of-range}
@@ -16,12 +16,12 @@ found c =
     let a = c.args in
     range-bares a.chart.now a.cell.base c.requires.0.indexed c.requires.1.side c.cell_at-number.ensures.0 c.range_of-range.ensures
 
-pub returns-then-bare-eq0 : goal.returns-then-bare-eq0
-returns-then-bare-eq0 c =
+pub returns-in_default : goal.returns-in_default
+returns-in_default c =
     let h = c.requires.0 in
     advanced-kept h
-    (added-as (sym (no_bare _ _ (found (goal.at.returns-then-bare-eq0 c).After-range_of-range) c.if-bare-eq0.true)) (added_none h.works))
+    (added-to-as (sym (no_bare _ (found (goal.at.returns-in_default c).After-range_of-range) c.in_default.is)) (nothing-added h.works))
 
 pub returns : goal.returns
 returns c =
-    advanced-as (sym (one-bare _ _ (found (goal.at.returns c).After-range_of-range) c.if-bare-eq0.false)) c.by_action.ensures
+    advanced-as (sym (one-bare _ (found (goal.at.returns c).After-range_of-range) c.in-Some.is)) c.by_action.ensures

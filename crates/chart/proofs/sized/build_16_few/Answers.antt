@@ -1,7 +1,0 @@
--- `sized::build_16_few` meets its contract: its tables are zeros for 16 words and 6 nonterminals.
--- What these give is one law for all sizes.
-use Rattle.chart.proofs.BuiltExact.{sized-lent}
-use Rattle.chart.proofs.sized.build_16_few.Goals as goal
-
-pub build_with-requires : goal.build_with-requires
-build_with-requires c = sized-lent 16 6 c.requires

@@ -1,5 +1,0 @@
--- The measure is the number.
-use Rattle.lines_text.proofs.text.+put_digits.Given as goal
-
-abbrev pub decreases-put_digits : goal.decreases-put_digits
-decreases-put_digits l = l.n

@@ -1,7 +1,0 @@
--- `text::put_pair` meets its contract: its texts are appended one after the other, and no field is longer than 21 bytes.
-use Rattle.std.proofs.Common.{arith}
-use Rattle.lines_text.proofs.Decimal.{field-short}
-use Rattle.lines_text.proofs.text.put_pair.Goals as goal
-
-pub put_field-requires : goal.put_field-requires
-put_field-requires c = omega (arith, field-short c.args.given 32)
