@@ -28,7 +28,7 @@ pub fn is_part(part: u32, whole: u32) -> bool
 }
 
 // The least number of a set of numbers below 64 that is not empty.
-fn least(set: u64) -> usize
+pub fn least(set: u64) -> usize
     requires { set ≡ 0 → ⊥ }
     ensures { Least set result }
 {
@@ -36,7 +36,7 @@ fn least(set: u64) -> usize
 }
 
 // The set without a number that it has.
-fn without(set: u64, k: usize) -> u64
+pub fn without(set: u64, k: usize) -> u64
     requires { (k < 64) × (bit_of k set ≡ 1) }
     ensures { Without set k result }
 {

@@ -65,7 +65,7 @@ impl View {
     }
 
     // Where the last production ends.
-    fn length(self) -> usize
+    pub fn length(self) -> usize
         requires { (self.header ≤ most_header) × (self.words < 256) × (self.productions < 256) }
         ensures { result ≡ production_place self self.productions }
     {

@@ -3,7 +3,7 @@
 #![tactic(auto)]
 
 mod entries;
-mod header;
+pub mod header;
 mod names;
 mod numbers;
 mod productions;
@@ -12,8 +12,7 @@ ghost use Rattle.std.specs.Prelude.{◌≡◌, ◌+◌, ◌≤◌, ◌<◌, IfOk
 ghost use Rattle.layout.specs.Card.{nonterminal_count, word_count, index_count, production_count};
 ghost use Rattle.layout.specs.Card.{max_nonterminals, max_words, max_indices, max_productions};
 ghost use Rattle.layout.specs.Card.{entry_at, production_at, production_length, production, card_number};
-ghost use Rattle.layout.specs.Answers.{name_number, name_answer, name_part};
-ghost use Rattle.refusals.specs.Number.{number_in};
+ghost use Rattle.layout.specs.Answers.{name_answer, name_part};
 ghost use Rattle.card.specs.Productions.{rule_from};
 ghost use Rattle.card.specs.Spelled.{answer_in};
 
@@ -73,6 +72,7 @@ impl<'a> Card<'a> {
         Ok(Card { bytes })
     }
 
+    // Counts and places straight from the bytes, which are known to be there: `View` is of any bytes, and tests each place.
     pub fn nonterminals(self) -> usize
         ensures counts { result ≡ nonterminal_count self.entry.bytes.now }
         ensures few { result ≤ max_nonterminals }
@@ -85,6 +85,13 @@ impl<'a> Card<'a> {
         ensures few { result ≤ max_words }
     {
         usize::from(self.bytes[5])
+    }
+
+    pub fn indices(self) -> usize
+        ensures counts { result ≡ index_count self.entry.bytes.now }
+        ensures few { result ≤ max_indices }
+    {
+        usize::from(self.bytes[6])
     }
 
     pub fn productions(self) -> usize
@@ -156,7 +163,7 @@ pub struct Spelling {
     pub size: usize,
 }
 
-// Where a word's spelling stands: the card's refusals, then 35 for a word that the card does not have.
+// Where a word's spelling stands on the card, or why there is none: the card's refusals, then 35 for a word that the card does not have.
 pub fn find_name(bytes: &[u8], word: usize) -> Result<Spelling, Refusal>
     ensures answer { answer_in result ≡ name_answer bytes.now word }
     ensures inside { IfOk result (λ s. s.offset + s.size ≤ length bytes.now) }
@@ -172,11 +179,12 @@ pub fn find_name(bytes: &[u8], word: usize) -> Result<Spelling, Refusal>
     })
 }
 
-// The spelling as the card's own bytes.
-pub fn name(bytes: &[u8], word: usize) -> Result<&[u8], Refusal>
-    ensures number { number_in result ≡ name_number bytes.now word }
-    ensures part { IfOk result (λ s. s.now ≡ name_part bytes.now word) }
+// The spelling as the card's own bytes; empty where there is none.
+pub fn name(bytes: &[u8], word: usize) -> &[u8]
+    ensures { result.now ≡ name_part bytes.now word }
 {
-    let spelling = find_name(bytes, word)?;
-    Ok(&bytes[spelling.offset..spelling.offset + spelling.size])
+    match find_name(bytes, word) {
+        Ok(spelling) => &bytes[spelling.offset..spelling.offset + spelling.size],
+        Err(_) => &bytes[..0],
+    }
 }

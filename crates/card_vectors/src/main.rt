@@ -14,10 +14,7 @@ fn number(card: [u8; 1024], length: usize) -> u64 {
     if 1024 < length {
         return 0;
     }
-    match Card::check(&card[..length]) {
-        Ok(_) => 0,
-        Err(refusal) => u64::from(refusal),
-    }
+    refusals::number(&Card::check(&card[..length]))
 }
 
 // A line: two bytes changed, place and value of each, the length, and the number.

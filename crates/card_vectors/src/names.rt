@@ -8,17 +8,10 @@ fn name(rt: &impl Print, card: [u8; 1024], length: usize, word: usize) -> io::Re
     if 1024 < length {
         return Ok(());
     }
-    print!(rt; "{length} {word} ")?;
-    match card::name(&card[..length], word) {
-        Ok(spelling) => {
-            print!(rt; "0 [")?;
-            io::writer(rt).write_all(spelling)?;
-        }
-        Err(refusal) => {
-            let number = u64::from(refusal);
-            print!(rt; "{number} [")?;
-        }
-    }
+    let bytes = &card[..length];
+    let number = refusals::number(&card::find_name(bytes, word));
+    print!(rt; "{length} {word} {number} [")?;
+    io::writer(rt).write_all(card::name(bytes, word))?;
     println!(rt; "]")
 }
 

@@ -133,7 +133,7 @@ pub fn gives(card: Card, plan: &[u8]) -> usize
     count
 }
 
-// Writes the pairs, from the last to the first, in one pass back over the plan.
+// Writes the pairs, from the last to the first, in one pass back over the plan. Not by `chunks_exact`, here and above: it divides.
 pub fn write_pairs(card: Card, plan: &[u8], count: usize, room: &mut [u8])
     requires checked { Checked card.bytes.now plan.now }
     requires counted { (count ≡ length (plan_pairs card.bytes.now (steps_of plan.now))) × (2 * count ≤ length room.old) }

@@ -21,7 +21,7 @@ fn pack(a: u64, b: usize, c: usize, d: usize) -> u64
     low + high * 4294967296
 }
 
-// 16 bits, 8 bits and 20 bits from the low end.
+// 16 bits, 8 bits and 20 bits from the low end, for C as well.
 fn pack_sheet(number: u64, line: u8, records: usize) -> u64
     requires { (number < 65536) × (records < 1048576) }
     ensures { result ≡ pack_sheet number line records }

@@ -8,7 +8,8 @@ use crate::slots::{SLOTS, Slot, slot_of};
 use card::Card;
 
 // The position of the next entry, from one on and up to another, that equals the word byte by byte. An entry of another length is
-// passed over at once; `next` steps on before the bytes are compared, so that a mismatch only has to go on.
+// passed over at once; `next` steps on before the bytes are compared, so that a mismatch only has to go on. Document 01 asks for this form:
+// a loop over the bytes left by a label, and the position yielded by a break.
 fn next_equal(card: Card, word: &[u8], from: usize, to: usize) -> Option<usize>
     requires { (from ≤ to) × (to ≤ word_count card.bytes.now) }
     ensures equal { NextEqual card.entry.bytes.now word.now from to (entry_or to result) }

@@ -8,7 +8,8 @@ use card::Card;
 // Five bits tell most words apart, numbered ones such as row1 and row2 too.
 pub const SLOTS: usize = 32;
 
-// From which entry on and up to which entry those of a slot stand, as far as they are met. Both are 0 where none has been.
+// From which entry on and up to which entry those of a slot stand, as far as they are met. Both are 0 where none has been: an empty
+// range, since an option would make the table half as long again.
 #[derive(Clone, Copy)]
 pub struct Slot {
     pub from: u8,

@@ -21,7 +21,7 @@ const MOST_TEXT: usize = 8192;
 // A line's text takes at most so many bytes for each byte of the line, its line end among them.
 const TEXT_RATE: usize = 32;
 
-// Room for the text of every input that is taken in.
+// A buffer of a fixed length, since printing must not run out of memory. Room for the text of every input that is taken in.
 pub const TEXT_ROOM: usize = TEXT_RATE * (MOST_INPUT + 1) + MOST_TEXT;
 
 // The steps of a plan, which is all of the bytes, and its pairs: at most 188 × 21 and 94 × 24 bytes of text. Pairs takes every plan that

@@ -12,7 +12,7 @@ pub fn byte(s: &[u8], k: usize) -> u8
     s.get(k).copied().unwrap_or(0)
 }
 
-// The 16-bit number at a place, low byte first.
+// The 16-bit number at a place, low byte first, as a number to count with: the library's reading and a widening, in one place.
 pub fn read16(s: &[u8], at: usize) -> usize
     requires { at + 2 ≤ length s.now }
     ensures { (result ≡ number16_at s.now at) × (result < 65536) }

@@ -1,5 +1,5 @@
 // The table of cells: four numbers for each. Where its records stand, from and to; one more than the position of its bare item, or 0; and
-// its cover: 0, or one more than the number of a cell that has every foot of it.
+// its cover: 0, or one more than the number of a cell that has every foot of it. Numbers and no options, since the memory is fixed.
 ghost use Rattle.std.specs.Prelude.{◌≡◌, ◌+◌, ◌*◌, ◌≤◌, ◌<◌, length};
 ghost use Rattle.layout.specs.Card.{max_nonterminals};
 ghost use Rattle.layout.specs.Line.{most_words};

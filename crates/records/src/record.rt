@@ -1,5 +1,5 @@
 // Records in the room: 16 bytes each, the last two of which hold the number of the foot while a chart is being built.
-ghost use Rattle.std.specs.Prelude.{◌≡◌, ◌++◌, ◌+◌, ◌*◌, ◌≤◌, ◌<◌, length, take, drop};
+ghost use Rattle.std.specs.Prelude.{◌≡◌, ◌++◌, ◌+◌, ◌*◌, ◌≤◌, length, take, drop};
 ghost use Rattle.layout.specs.Bytes.{low_byte, high_byte};
 ghost use Rattle.records.specs.Room.{foot_fields, record_from, Writable, with_number, number_there};
 

@@ -4,7 +4,7 @@
 
 pub mod like;
 
-ghost use Rattle.std.specs.Prelude.{◌≡◌, ℕ, ◌≤◌, ◌<◌, length, get_or, replicate, IfSome};
+ghost use Rattle.std.specs.Prelude.{◌≡◌, ℕ, ◌≤◌, ◌<◌, length, get_or, replicate};
 ghost use Rattle.layout.specs.Card.{max_nonterminals, max_productions, grammar_of};
 ghost use Rattle.layout.specs.Line.{most_words};
 ghost use Rattle.layout.specs.Rules.{RuleCounted};

@@ -68,6 +68,7 @@ fn read_lines(
     requires { (length (lines_of sheet.now) ≤ most_lines) × (records.old.count ≡ 0) }
     ensures { Ends card.entry.bytes.now sheet.now chart.old chart.new records.new result }
 {
+    // A byte, as a record has it: `enumerate` would count wider, and want a cast.
     let mut place = 0;
     for line in split::lines(sheet) {
         if let Err(refusal) = add_line(card, line, place, chart, records) {

@@ -2,7 +2,7 @@
 // and each unfolding leads to the other, over shorter and shorter stretches.
 #![tactic(auto)]
 
-ghost use Rattle.std.specs.Prelude.{◌≡◌, ◌+◌, ◌*◌, ◌≤◌, [], length};
+ghost use Rattle.std.specs.Prelude.{◌+◌, ◌*◌, ◌≤◌, [], length};
 ghost use Rattle.layout.specs.Steps.{step_bytes};
 ghost use Rattle.unfold.specs.Unfold.{Unfoldable, Plans, Found};
 ghost use Rattle.layout.specs.Written.{Wrote};
