@@ -371,18 +371,18 @@ uint64_t lig_sheet(const uint8_t *card, size_t card_length,
  * and the arguments on the stack included:
  *
  *     line of        1 to 6 words   7 to 12 words   13 to 24 words
- *     lig_card_check      112             112             112
- *     lig_read         14,848          15,520          64,256
- *     lig_read/few     14,848          15,520          37,248
- *     lig_check           824             824             824
- *     lig_pairs           936             936             936
- *     lig_name            128             128             128
- *     lig_sheet        17,296          17,968          66,704
- *     lig_sheet/few    17,296          17,968          39,696
+ *     lig_card_check      128             128             128
+ *     lig_read         15,024          15,696          64,456
+ *     lig_read/few     15,024          15,696          37,464
+ *     lig_check           872             872             872
+ *     lig_pairs         1,000           1,000           1,000
+ *     lig_name            144             144             144
+ *     lig_sheet        17,504          18,176          66,936
+ *     lig_sheet/few    17,504          18,176          39,944
  *
  * lig_read/few and lig_sheet/few are these calls with a card of at most 6 nonterminals. Of a sheet
  * the longest line counts, and not how many lines there are. Under a card that is accepted lig_read
- * takes most of the first column also for a line that it refuses. lig_sheet takes 2,448 more than
+ * takes most of the first column also for a line that it refuses. lig_sheet takes 2,480 more than
  * lig_read, in every column: it keeps the records of all lines until the last line is read. The
  * figures below have at least 128 bytes to spare, as much as a function may use below the stack
  * pointer. Interrupts that run on the same stack come on top.

@@ -8,7 +8,7 @@ use mathlib.Core.Path.{◌≡◌, refl, sym, ◌∙◌, ap}
 use mathlib.Core.Bool.{Bool, true, false, cond, ◌&&◌}
 use mathlib.Core.Logic.{◌⊎◌, inl, inr}
 use mathlib.Core.List.{List, [], ◌∷◌, Memᴰ}
-use lib.Bits.{bit_and, bit_or, and_step, and_zero_l}
+use lib.Bits.{bit_and, bit_or, and_step, and_self, and_zero_l}
 use lib.Count.{count_trailing_zeros}
 use lib.Dec.{ltb}
 use lib.Pow.{pow_pos}
@@ -142,6 +142,18 @@ less-kept zero (suc k) x e d = omega (arith, pow-succ' 2 k, bit-size k (x / 2) e
 less-kept (suc q) zero x e d = let half : (x - 1) / 2 ≡ x / 2 = omega arith in ap (bit_of q) half
 less-kept (suc q) (suc k) x e d = ap (bit_of q) (half-less k x e) ∙ less-kept q k (x / 2) e (λ s. d (ap suc s))
 
+-- A number and the one before it have in common what is left without the lowest bit.
+and-before : (k x : ℕ) → bit_of k x ≡ 1 → ((q : ℕ) → q < k → bit_of q x ≡ 0) → bit_and x (x - 1) ≡ x - 2 ^ k
+and-before zero x e f =
+    let half : (x - 1) / 2 ≡ x / 2 = omega arith in
+    omega (arith, and_step x (x - 1), ap (bit_and (x / 2)) half, and_self (x / 2))
+and-before (suc k) x e f =
+    let even : x % 2 ≡ 0 = f 0 (omega arith) in
+    let size = bit-size k (x / 2) e in
+    let half : (x - 1) / 2 ≡ x / 2 - 1 = omega (arith, pow_pos k) in
+    let rest = and-before k (x / 2) e (λ q l. f (suc q) (omega arith)) in
+    omega (arith, and_step x (x - 1), ap (bit_and (x / 2)) half, rest, pow-succ' 2 k)
+
 pub without-there : (set k rest : ℕ) → bit_of k set ≡ 1 → rest ≡ set - 2 ^ k → Without set k rest
 without-there set k rest one e =
     record {
@@ -149,6 +161,9 @@ without-there set k rest one e =
       kept = λ q d. ap (bit_of q) e ∙ less-kept q k set one d;
       less = omega (arith, bit-size k set one, pow_pos k);
     }
+
+pub without-lowest : (set rest : ℕ) → rest ≡ bit_and set (set - 1) → (k : ℕ) → Least set k → Without set k rest
+without-lowest set rest e k least = without-there set k rest least.has (e ∙ and-before k set least.has least.first)
 
 -- What the rest has the set had; what it lacks is that number, or was lacking.
 module _ {set k rest : ℕ} (w : Without set k rest) where

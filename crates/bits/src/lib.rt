@@ -1,7 +1,7 @@
 // Sets of small numbers, as the bits of one number.
 #![tactic(auto)]
 
-ghost use Rattle.std.specs.Prelude.{◌≡◌, ◌<◌};
+ghost use Rattle.std.specs.Prelude.{◌≡◌, ◌<◌, ℕ};
 ghost use Rattle.std.specs.Iterator.{at_most};
 ghost use Rattle.bits.specs.Bits.{bit_of, holds_bit, with_number, is_part, Least, Without, TakesLeast};
 
@@ -32,15 +32,16 @@ pub fn least(set: u64) -> usize
     requires { set ≡ 0 → ⊥ }
     ensures { Least set result }
 {
+    // At most 63. There is no `From`, and `try_from` would test what is proved.
     u64::trailing_zeros(set) as usize
 }
 
-// The set without a number that it has.
-pub fn without(set: u64, k: usize) -> u64
-    requires { (k < 64) × (bit_of k set ≡ 1) }
-    ensures { Without set k result }
+// The set without its least number: that is the lowest bit, and a number has all above it in common with the one before it.
+pub fn without_least(set: u64) -> u64
+    requires { set ≡ 0 → ⊥ }
+    ensures { (k : ℕ) → Least set k → Without set k result }
 {
-    set - (1u64 << k)
+    set & (set - 1)
 }
 
 // A walk over a set of numbers below 64, least first: those that are left.
@@ -62,7 +63,7 @@ impl Iterator for Members {
             return None;
         }
         let k = least(self.rest);
-        self.rest = without(self.rest, k);
+        self.rest = without_least(self.rest);
         Some(k)
     }
 }

@@ -3,7 +3,7 @@ use Prim.Native.Nat.{ℕ, zero, suc, ◌+◌, ◌-◌}
 use native.Mathlib.Omega.{arith}
 use native.Mathlib.Nat.{sub-zero, zero-sub, suc-sub-suc, add-sub_cancel_left}
 use mathlib.Core.Path.{◌≡◌}
-use mathlib.Core.Bool.{true, false, ◌&&◌}
+use mathlib.Core.Bool.{true, ◌&&◌}
 use mathlib.Core.List.{List, [], ◌∷◌}
 use lib.Dec.{eqb}
 use lib.ListN.{take, drop}
@@ -35,15 +35,8 @@ entry-parts : (card : List ℕ) (v at n : ℕ) → at ≡ entry_at card v → n 
     ≡ entry_fits card v
 entry-parts card v at n e h = rw (spelling-part, padding-part, h, e)
 
--- An entry that starts at `at` and has the length byte n: what its parts say of it.
-module _ (card : List ℕ) (v at n : ℕ) (place : at ≡ entry_at card v) (length-byte : n ≡ byte_at card at) where
-  pub entry-size : within 1 most_letters n ≡ false → false ≡ entry_fits card v
-  entry-size size = rw size at (entry-parts card v at n place length-byte)
-
-  pub entry-spelling : within 1 most_letters n ≡ true → all_bytes is_letter (take (at + 1 + n - (at + 1)) (drop (at + 1) card)) ≡ false
-      → false ≡ entry_fits card v
-  entry-spelling size letters = rw (size, letters) at (entry-parts card v at n place length-byte)
-
-  pub entry-padding : within 1 most_letters n ≡ true → all_bytes is_letter (take (at + 1 + n - (at + 1)) (drop (at + 1) card)) ≡ true
-      → all_bytes (eqb 0) (take (at + 12 - (at + 1 + n)) (drop (at + 1 + n) card)) ≡ entry_fits card v
-  entry-padding size letters = rw (size, letters) at (entry-parts card v at n place length-byte)
+-- An entry that starts at `at` and has the length byte n: where its length and its letters fit, its padding decides.
+pub entry-padding : (card : List ℕ) (v at n : ℕ) → at ≡ entry_at card v → n ≡ byte_at card at → within 1 most_letters n ≡ true
+    → all_bytes is_letter (take (at + 1 + n - (at + 1)) (drop (at + 1) card)) ≡ true
+    → all_bytes (eqb 0) (take (at + 12 - (at + 1 + n)) (drop (at + 1 + n) card)) ≡ entry_fits card v
+entry-padding card v at n place length-byte size letters = rw (size, letters) at (entry-parts card v at n place length-byte)

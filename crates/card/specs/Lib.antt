@@ -1,4 +1,3 @@
-pub mod View
 pub mod Productions
 pub mod Names
 pub mod Checks

@@ -5,7 +5,7 @@ use Rattle.grammar.specs.Names.{left_name, right_names}
 use Rattle.layout.specs.Card.{production, productions_fit, names_live}
 use Rattle.card.specs.declared.names.Names.{Names}
 use Rattle.refusals.specs.declared.Refusal.{Refusal}
-use Rattle.refusals.specs.Number.{number_in}
+use Rattle.refusals.specs.Number.{number_told}
 
 abbrev pub lefts_below : List ℕ → ℕ → ℕ
 lefts_below card zero = 0
@@ -30,5 +30,5 @@ is_live names = is_part names.right names.left
 
 -- What the productions' check finds: 16 where one does not fit, and else the names, by which 42 is decided.
 pub record NamesChecked (card : List ℕ) (r : Result Names Refusal) : Type 0 where
-  pub number : number_in r ≡ cond (productions_fit card) 0 16
+  pub number : number_told r ≡ cond (productions_fit card) 0 16
   pub live : IfOk r (λ names. is_live names ≡ names_live card)

@@ -11,7 +11,7 @@ mod productions;
 ghost use Rattle.std.specs.Prelude.{◌≡◌, ◌+◌, ◌≤◌, ◌<◌, IfOk, length};
 ghost use Rattle.layout.specs.Card.{nonterminal_count, word_count, index_count, production_count};
 ghost use Rattle.layout.specs.Card.{max_nonterminals, max_words, max_indices, max_productions};
-ghost use Rattle.layout.specs.Card.{entry_at, production_at, production_length, production, card_number};
+ghost use Rattle.layout.specs.Card.{entry_at, production_table, production_at, production_length, production, card_number};
 ghost use Rattle.layout.specs.Answers.{name_answer, name_part};
 ghost use Rattle.card.specs.Productions.{rule_from};
 ghost use Rattle.card.specs.Spelled.{answer_in};
@@ -20,11 +20,14 @@ use header::View;
 use productions::Fields;
 use refusals::Refusal;
 
-// An accepted card, as its bytes. The limits and the places of the tables belong to this type.
+// An accepted card, as its bytes, with where its productions start: each of them is looked for by that place, and it is computed once.
+// The limits and the places of the tables belong to this type.
 #[derive(Clone, Copy)]
 pub struct Card<'a> {
     pub bytes: &'a [u8],
+    pub table: usize,
     pub ghost accepted: { card_number bytes.now ≡ 0 },
+    pub ghost placed: { table ≡ production_table bytes.now },
 }
 
 impl<'a> Card<'a> {
@@ -59,17 +62,20 @@ impl<'a> Card<'a> {
         if !view.counts_fit() {
             return Err(Refusal::Counts);
         }
-        if !header::lengths_fit(bytes, view) {
+        if !view.lengths_fit() {
             return Err(Refusal::Lengths);
         }
-        if !entries::entries_fit(bytes, view) {
+        if !view.entries_fit() {
             return Err(Refusal::Entry);
         }
-        let names = productions::check(bytes, view)?;
+        let names = productions::check(view)?;
         if !names.live() {
             return Err(Refusal::DeadName);
         }
-        Ok(Card { bytes })
+        Ok(Card {
+            bytes,
+            table: view.production_table(),
+        })
     }
 
     // Counts and places straight from the bytes, which are known to be there: `View` is of any bytes, and tests each place.
@@ -115,7 +121,7 @@ impl<'a> Card<'a> {
         ensures at { result ≡ production_at self.entry.bytes.now m }
         ensures inside { result + production_length ≤ length self.entry.bytes.now }
     {
-        self.entry_at(self.words()) + Self::PRODUCTION * m
+        self.table + Self::PRODUCTION * m
     }
 
     // Production m.
@@ -179,7 +185,7 @@ pub fn find_name(bytes: &[u8], word: usize) -> Result<Spelling, Refusal>
     })
 }
 
-// The spelling as the card's own bytes; empty where there is none.
+// The spelling as the card's own bytes; where there is none the empty part, as document 01 has it.
 pub fn name(bytes: &[u8], word: usize) -> &[u8]
     ensures { result.now ≡ name_part bytes.now word }
 {

@@ -4,7 +4,6 @@ ghost use Rattle.layout.specs.Card.{production_length, card_length, rule_of};
 ghost use Rattle.layout.specs.Card.{counts_fit, word_production_fits, index_fits, pair_fits, kind_fits};
 ghost use Rattle.card.specs.Names.{NamesChecked};
 ghost use Rattle.card.specs.Productions.{rule_from, FieldsAt, fields_fit};
-ghost use Rattle.card.specs.View.{ViewOf};
 
 use crate::header::View;
 use crate::names::Names;
@@ -12,7 +11,7 @@ use crate::numbers::within;
 use crate::{Action, Production};
 use refusals::Refusal;
 
-// The six bytes of a production.
+// The six bytes of a production. The kind is one of them, tested by document 01's table; what it is decoded to is an enum.
 #[derive(Clone, Copy)]
 pub struct Fields {
     pub kind: u8,
@@ -76,57 +75,62 @@ impl Fields {
     }
 }
 
-fn word_production_fits(card: &[u8], a: u8, b: u8, c: u8, g: u8) -> bool
-    ensures { result ≡ word_production_fits card.now a b c g }
-{
-    let counts = View::of(card);
-    usize::from(a) < counts.nonterminals && usize::from(b) < counts.words && c == 0 && g == 0
-}
-
-// An index where one is due; kinds 3 and 4 keep the stack and have none.
-fn index_fits(card: &[u8], kind: u8, g: u8) -> bool
-    ensures { result ≡ index_fits card.now kind g }
-{
-    if within(3, 4, usize::from(kind)) {
-        return g == 0;
+impl View<'_> {
+    fn word_production_fits(self, f: Fields) -> bool
+        ensures { result ≡ word_production_fits self.entry.bytes.now f.a f.b f.c f.g }
+    {
+        usize::from(f.a) < self.nonterminals
+            && usize::from(f.b) < self.words
+            && f.c == 0
+            && f.g == 0
     }
-    within(1, View::of(card).indices, usize::from(g))
-}
 
-fn pair_fits(card: &[u8], a: u8, b: u8, c: u8, index: bool) -> bool
-    ensures { result ≡ pair_fits card.now a b c index }
-{
-    let count = View::of(card).nonterminals;
-    usize::from(a) < count && usize::from(b) < count && usize::from(c) < count && index
-}
-
-fn kind_fits(card: &[u8], kind: u8, a: u8, b: u8, c: u8, g: u8) -> bool
-    ensures { result ≡ kind_fits card.now kind a b c g }
-{
-    if 6 < kind {
-        return false;
+    // An index where one is due; kinds 3 and 4 keep the stack and have none.
+    fn index_fits(self, f: Fields) -> bool
+        ensures { result ≡ index_fits self.entry.bytes.now f.kind f.g }
+    {
+        if within(3, 4, usize::from(f.kind)) {
+            return f.g == 0;
+        }
+        within(1, self.indices, usize::from(f.g))
     }
-    if kind == 0 {
-        return word_production_fits(card, a, b, c, g);
-    }
-    pair_fits(card, a, b, c, index_fits(card, kind, g))
-}
 
-fn production_fits(card: &[u8], f: Fields) -> bool
-    ensures { result ≡ fields_fit card.now f }
-{
-    f.last == 0 && kind_fits(card, f.kind, f.a, f.b, f.c, f.g)
+    // The three names of a pair; its index is asked by itself.
+    fn pair_fits(self, f: Fields) -> bool
+        ensures { result ≡ pair_fits self.entry.bytes.now f.a f.b f.c true }
+    {
+        let count = self.nonterminals;
+        usize::from(f.a) < count && usize::from(f.b) < count && usize::from(f.c) < count
+    }
+
+    fn kind_fits(self, f: Fields) -> bool
+        ensures { result ≡ kind_fits self.entry.bytes.now f.kind f.a f.b f.c f.g }
+    {
+        if 6 < f.kind {
+            return false;
+        }
+        if f.kind == 0 {
+            return self.word_production_fits(f);
+        }
+        self.pair_fits(f) && self.index_fits(f)
+    }
+
+    fn production_fits(self, f: Fields) -> bool
+        ensures { result ≡ fields_fit self.entry.bytes.now f }
+    {
+        f.last == 0 && self.kind_fits(f)
+    }
 }
 
 // The names of all productions, if each of them fits.
-pub fn check(card: &[u8], view: View) -> Result<Names, Refusal>
-    requires { ViewOf card.now view × (counts_fit card.now ≡ true) × (card_length card.now ≤ length card.now) }
-    ensures { NamesChecked card.now result }
+pub fn check(view: View) -> Result<Names, Refusal>
+    requires { (counts_fit view.bytes.now ≡ true) × (card_length view.bytes.now ≤ length view.bytes.now) }
+    ensures { NamesChecked view.entry.bytes.now result }
 {
     let mut names = Names { left: 0, right: 0 };
     for m in 0..view.productions {
-        let f = Fields::at(card, view.production_at(m));
-        if !production_fits(card, f) {
+        let f = Fields::at(view.bytes, view.production_at(m));
+        if !view.production_fits(f) {
             return Err(Refusal::Production);
         }
         names = names.with(f);

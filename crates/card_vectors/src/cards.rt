@@ -1,110 +1,65 @@
 // The cards that the vectors are made of: each in a room of 1,024 bytes, zeros after its end.
 
-// A byte of document 01's tomato card: header, five words, five word productions, four that give and two that take.
-fn tomato_byte(i: usize) -> u8 {
-    let bytes = b"LIG1\x06\x05\x02\x0b\x0c\0\x48\0\
-        \x04coir\0\0\0\0\0\0\0\x04wool\0\0\0\0\0\0\0\x05takes\0\0\0\0\0\0\x04mild\0\0\0\0\0\0\0\x04rich\0\0\0\0\0\0\0\
-        \0\x02\0\0\0\0\0\x03\x01\0\0\0\0\x01\x02\0\0\0\0\x04\x03\0\0\0\0\x05\x04\0\0\0\
-        \x05\0\x02\0\x01\0\x05\0\x03\0\x02\0\x05\0\x02\x01\x01\0\x05\0\x03\x01\x02\0\
-        \x02\x01\x01\x04\x01\0\x02\x01\x01\x05\x02\0";
-    if 137 < i {
-        return 0;
-    }
-    bytes[i]
-}
+// The header of the largest card: 16 nonterminals, 32 words, 8 indices and 64 productions.
+const LARGEST: [u8; 12] = *b"LIG1\x10\x20\x08\x40\x0c\x00\x8c\x01";
 
 // The card with one byte changed.
-pub fn with(card: [u8; 1024], at: usize, value: u8) -> [u8; 1024] {
+pub fn with<const N: usize>(card: [u8; N], at: usize, value: u8) -> [u8; N] {
     let mut changed = card;
-    if at < 1024 {
-        changed[at] = value;
+    if let Some(byte) = changed.get_mut(at) {
+        *byte = value;
     }
     changed
 }
 
-fn small(x: usize) -> u8 {
-    (x % 256) as u8
+// Entry v: eleven letters and digits, the last two the entry's number.
+fn entry(v: u8) -> [u8; 12] {
+    let mut bytes = *b"\x0baaaaaaaaa00";
+    bytes[10] += v / 10;
+    bytes[11] += v % 10;
+    bytes
 }
 
-// Byte j of entry v: eleven letters and digits, the last two the entry's number.
-fn entry_byte(v: usize, j: usize) -> u8 {
-    if j == 0 {
-        return 11;
-    }
-    if j < 10 {
-        return b'a';
-    }
-    if j == 10 {
-        return small(48 + v / 10);
-    }
-    small(48 + v % 10)
-}
-
-// Byte j of production m: every kind in turn.
-fn production_byte(m: usize, j: usize) -> u8 {
+// Production m: every kind in turn.
+fn production(m: u8) -> [u8; 6] {
     let kind = m % 7;
-    if j == 0 {
-        return small(kind);
-    }
-    if j < 3 {
-        return small(m % 16);
-    }
-    if kind == 0 {
-        return 0;
-    }
-    if j == 3 {
-        return 15;
-    }
-    if kind == 3 {
-        return 0;
-    }
-    if kind == 4 {
-        return 0;
-    }
-    if j == 4 {
-        return small(1 + m % 8);
-    }
-    0
+    let name = m % 16;
+    let dependent = match kind {
+        0 => 0,
+        _ => 15,
+    };
+    let index = match kind {
+        0 | 3 | 4 => 0,
+        _ => 1 + m % 8,
+    };
+    [kind, name, name, dependent, index, 0]
 }
 
-fn largest_byte(i: usize) -> u8 {
-    let header = b"LIG1\x10\x20\x08\x40\x0c\x00\x8c\x01";
-    if i < 12 {
-        return header[i];
-    }
-    if i < 396 {
-        return entry_byte((i - 12) / 12, (i - 12) % 12);
-    }
-    production_byte((i - 396) / 6, (i - 396) % 6)
-}
-
-fn made(big: bool) -> [u8; 1024] {
-    let mut card = [0u8; 1024];
-    for i in 0..780 {
-        if big {
-            card[i] = largest_byte(i);
-        } else {
-            card[i] = tomato_byte(i);
-        }
-    }
-    card
-}
-
-// 138 bytes.
+// The tomato card: 138 bytes.
 pub fn tomato() -> [u8; 1024] {
-    made(false)
+    let mut card = [0u8; 1024];
+    card[..138].copy_from_slice(&samples::TOMATO);
+    card
 }
 
 // Every count at its limit: 780 bytes.
 pub fn largest() -> [u8; 1024] {
-    made(true)
+    let mut card = [0u8; 1024];
+    card[..12].copy_from_slice(&LARGEST);
+    for (v, bytes) in (0..32u8).zip(card[12..396].chunks_exact_mut(12)) {
+        bytes.copy_from_slice(&entry(v));
+    }
+    for (m, bytes) in (0..64u8).zip(card[396..780].chunks_exact_mut(6)) {
+        bytes.copy_from_slice(&production(m));
+    }
+    card
 }
 
 // The largest card with every word spelled as the first.
 pub fn alike() -> [u8; 1024] {
     let mut card = largest();
-    for i in 0..372 {
-        card[24 + i] = entry_byte(0, i % 12);
+    for bytes in card[24..396].chunks_exact_mut(12) {
+        bytes.copy_from_slice(&entry(0));
     }
     card
 }

@@ -8,16 +8,10 @@ mod productions;
 
 use card::Card;
 use cards::{alike, largest, tomato, with};
+use samples::TOMATO;
 use std::io;
 
-fn number(card: [u8; 1024], length: usize) -> u64 {
-    if 1024 < length {
-        return 0;
-    }
-    refusals::number(&Card::check(&card[..length]))
-}
-
-// A line: two bytes changed, place and value of each, the length, and the number.
+// A line: two bytes changed, place and value of each, the length, and the number; a length that the room does not have says so.
 fn change(
     rt: &impl Print,
     card: [u8; 1024],
@@ -27,33 +21,23 @@ fn change(
     otherwise: u8,
     length: usize,
 ) -> io::Result<()> {
-    print!(rt; "{at}")?;
-    print!(rt; " {value}")?;
-    print!(rt; " {other}")?;
-    print!(rt; " {otherwise}")?;
-    print!(rt; " {length}")?;
-    let number = number(with(with(card, at, value), other, otherwise), length);
-    println!(rt; " {number}")
+    let card = with(with(card, at, value), other, otherwise);
+    let Some(bytes) = card.get(..length) else {
+        return println!(rt; "no length {length}");
+    };
+    let number = refusals::number(&Card::check(bytes));
+    println!(rt; "{at} {value} {other} {otherwise} {length} {number}")
 }
 
-// The numbers that a card gets with each value of one byte, as runs of values: first, last, number.
-fn runs(rt: &impl Print, card: [u8; 1024], at: usize) -> io::Result<()> {
-    let mut first: u8 = 0;
-    let mut same = number(with(card, at, 0), 138);
-    for last in 0..255u8 {
-        let value = last + 1;
-        let next = number(with(card, at, value), 138);
-        if next != same {
-            print!(rt; " {first}-{last}:{same}")?;
-            first = value;
-            same = next;
-        }
-    }
-    print!(rt; " {first}-255:{same}")
+// The numbers that a card gets with each value of one byte, as runs of values.
+fn runs(rt: &impl Print, card: [u8; 138], at: usize) -> io::Result<()> {
+    samples::print_runs(rt, 255, |value| {
+        refusals::number(&Card::check(&with(card, at, value)))
+    })
 }
 
 // A line for each byte of a stretch: its place, and the runs.
-fn sweep(rt: &impl Print, card: [u8; 1024], from: usize, to: usize) -> io::Result<()> {
+fn sweep(rt: &impl Print, card: [u8; 138], from: usize, to: usize) -> io::Result<()> {
     for at in from..to {
         print!(rt; "{at}")?;
         runs(rt, card, at)?;
@@ -72,11 +56,10 @@ fn first_bytes(rt: &impl Print) -> io::Result<()> {
 
 // Production 10 with a kind, and with the rest as that kind has it.
 fn kind(rt: &impl Print, kind: u8, c: u8, g: u8) -> io::Result<()> {
-    print!(rt; "kind")?;
-    println!(rt; " {kind}")?;
+    println!(rt; "kind {kind}")?;
     sweep(
         rt,
-        with(with(with(tomato(), 132, kind), 135, c), 136, g),
+        with(with(with(TOMATO, 132, kind), 135, c), 136, g),
         132,
         138,
     )
@@ -191,7 +174,7 @@ fn main(rt: HostRuntime) -> io::Result<()> {
     change(&rt, tomato(), 0, b'L', 0, b'L', 137)?;
     change(&rt, tomato(), 0, b'L', 0, b'L', 138)?;
     change(&rt, tomato(), 0, b'L', 0, b'L', 139)?;
-    sweep(&rt, tomato(), 0, 138)?;
+    sweep(&rt, TOMATO, 0, 138)?;
     kinds(&rt)?;
     equal_words(&rt)?;
     faults(&rt)?;

@@ -5,10 +5,9 @@ use std::io::Write;
 
 // A line: the length of the card, the word, the number, and the spelling.
 fn name(rt: &impl Print, card: [u8; 1024], length: usize, word: usize) -> io::Result<()> {
-    if 1024 < length {
+    let Some(bytes) = card.get(..length) else {
         return Ok(());
-    }
-    let bytes = &card[..length];
+    };
     let number = refusals::number(&card::find_name(bytes, word));
     print!(rt; "{length} {word} {number} [")?;
     io::writer(rt).write_all(card::name(bytes, word))?;

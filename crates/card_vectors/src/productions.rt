@@ -3,6 +3,7 @@ use crate::cards::{tomato, with};
 use card::{Action, Card, Production};
 use std::io;
 
+// Actions and productions are printed by functions: `Display` is for the crate of a type to implement, and crates of the archive print nothing.
 fn act(rt: &impl Print, action: Action) -> io::Result<()> {
     match action {
         Action::Take(g) => print!(rt; " take {g}"),
@@ -53,11 +54,11 @@ fn decoded(rt: &impl Print, bytes: &[u8], m: usize) -> io::Result<()> {
 }
 
 fn production(rt: &impl Print, card: [u8; 1024], length: usize, m: u8) -> io::Result<()> {
-    if 1024 < length {
+    let Some(bytes) = card.get(..length) else {
         return Ok(());
-    }
+    };
     print!(rt; "{m}")?;
-    decoded(rt, &card[..length], m as usize)?;
+    decoded(rt, bytes, usize::from(m))?;
     println!(rt;)
 }
 

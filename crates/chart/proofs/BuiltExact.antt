@@ -1,6 +1,6 @@
 -- From the code's end to the promise: tables of zeros are the start of the model's fold, and the model's result is a chart exactly when
 -- the derivable items fit the room.
-use Prim.Native.Nat.{ℕ, ◌+◌, ◌*◌, ◌≤◌, ◌<◌}
+use Prim.Native.Nat.{ℕ, ◌+◌, ◌*◌, ◌≤◌}
 use native.Mathlib.Omega.{arith}
 use native.Mathlib.Nat.{mul-le-mul}
 use mathlib.Core.Path.{◌≡◌, sym, ◌∙◌, ap, subst}
@@ -10,10 +10,10 @@ use Rattle.std.specs.Prelude.{Option, Some, None}
 use lib.ListN.{length, take, drop, replicate}
 use lib.Seq.{take_at, drop_at}
 use Rattle.grammar.specs.Rewriting.{Rule}
-use Rattle.grammar.specs.ItemList.{items}
-use Rattle.layout.specs.Card.{nonterminal_count, grammar_of}
+use Rattle.grammar.specs.Input.{Holds, Below}
+use Rattle.layout.specs.Card.{max_nonterminals, card_number, nonterminal_count, grammar_of}
+use Rattle.layout.specs.Line.{most_words}
 use Rattle.layout.specs.Records.{chart_bytes, capacity}
-use Rattle.layout.proofs.Accepting.{accepted-counts}
 use Rattle.layout.proofs.CardLaws.{card-one-sided}
 use Rattle.places.specs.Places.{word_test}
 use Rattle.records.specs.Room.{chart_in, numbered_chart, numbers_cleared}
@@ -28,17 +28,17 @@ use Rattle.sets.specs.Places.{set_count, OnlyClasses}
 use Rattle.sets.specs.Classes.{Classified}
 use Rattle.sets.proofs.SortedLaws.{sorted_none}
 use Rattle.chart.specs.Fill.{Between, Closed}
-use Rattle.chart.specs.Built.{Buildable, RoomLent, LongEnough, TablesLent, ClosedIn, BuiltRoom}
+use Rattle.chart.specs.Built.{LongEnough, TablesLent, ClosedIn, BuiltRoom}
 use Rattle.chart.proofs.FillLaws.{start_between}
 use Rattle.chart.proofs.CardFits.{lefts-below}
 use Rattle.chart.proofs.BuiltLaws.{too_many, fitting}
 
 -- Tables of zeros, once the sets by the card are noted, are where the model starts.
-pub tables_start : {g : List Rule} (card places : List ℕ) (n room : ℕ) {chart marks cells zeros sets : List ℕ} → Buildable card places n
-    → RoomLent room chart → TablesLent n (nonterminal_count card) marks cells zeros → Classified g sets → OnlyClasses zeros sets
-    → Between g n (nonterminal_count card) room chart marks cells sets 0
-tables_start {g} card places n room {zeros = zeros} {sets} b l t classes only =
-    start_between b.short (accepted-counts card b.accepted).few_nonterminals l.small l.there t.long.marks_there t.long.cells_there
+pub tables_start : {g : List Rule} {n N room : ℕ} {chart marks cells zeros sets : List ℕ} → n ≤ most_words → N ≤ max_nonterminals
+    → room ≡ capacity (length chart) → TablesLent n N marks cells zeros → Classified g sets → OnlyClasses zeros sets
+    → Between g n N room chart marks cells sets 0
+tables_start {g} {n} {zeros = zeros} {sets} words names own t classes only =
+    start_between words names (omega arith) (omega arith) t.long.marks_there t.long.cells_there
     t.marks_zero t.cells_zero classes
     (sorted_none g n zeros sets t.long.sets_there t.sets_zero only)
 
@@ -67,26 +67,26 @@ finished n N count old new written =
     ∙ ap (λ (r : List ℕ). chart_bytes c ++ r) (ap (drop (16 * count)) written ∙ drop_at (numbered_chart n N c) rest (16 * count) long)
 
 -- What the two answers say of the derivable items.
-module _ {card places old new cleared : List ℕ} {n room : ℕ} (b : Buildable card places n) (own : room ≡ capacity (length old)) where
-  pub built-over : ClosedIn card places n room old new None → cleared ≡ replicate (length new) 0 → BuiltRoom card (word_test places) n None old cleared
+module _ {card old new cleared : List ℕ} {n : ℕ} (places : List ℕ) (accepted : card_number card ≡ 0)
+    (below : Below (Holds (word_test places)) n) where
+  pub built-over : ClosedIn card places n old new None → cleared ≡ replicate (length new) 0 → BuiltRoom card (word_test places) n None old cleared
   built-over c e =
       let at = word_test places in
-      let more = build-none room (nonterminal_count card) n (grammar_of card) at (card-one-sided card) b.below
-      (lefts-below card b.accepted) (sym c.model) in
-      too_many card at n (subst (λ (k : ℕ). k < length (items (grammar_of card) at n)) own more)
-      (e ∙ ap (λ (k : ℕ). replicate k 0) c.same_room)
+      let more = build-none (capacity (length old)) (nonterminal_count card) n (grammar_of card) at (card-one-sided card) below
+      (lefts-below card accepted) (sym c.model) in
+      too_many card at n more (e ∙ ap (λ (k : ℕ). replicate k 0) c.same_room)
 
-  pub built-within : {count : ℕ} → ClosedIn card places n room old new (Some count) → cleared ≡ numbers_cleared count new
+  pub built-within : {count : ℕ} → ClosedIn card places n old new (Some count) → cleared ≡ numbers_cleared count new
       → BuiltRoom card (word_test places) n (Some count) old cleared
   built-within {count} c e =
       let at = word_test places in
+      let room = capacity (length old) in
       let N = nonterminal_count card in
       let one = card-one-sided card in
-      let lefts = lefts-below card b.accepted in
-      let fits = build-room room N n (grammar_of card) at one b.below lefts (sym c.model) in
+      let lefts = lefts-below card accepted in
       let size = chart-length new count in
-      fitting card at n (chart_in new count) b.below
-      (build-chart room N n (grammar_of card) at one b.below lefts (sym c.model))
-      (build-first room N n (grammar_of card) at one b.below lefts (sym c.model)) (sym size)
-      (subst (λ (m : ℕ). length (chart_in new count) ≤ m) own fits)
+      fitting card at n (chart_in new count) below
+      (build-chart room N n (grammar_of card) at one below lefts (sym c.model))
+      (build-first room N n (grammar_of card) at one below lefts (sym c.model)) (sym size)
+      (build-room room N n (grammar_of card) at one below lefts (sym c.model))
       (e ∙ rw size (finished n N count old new c.charted.1))

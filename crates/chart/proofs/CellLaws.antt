@@ -1,33 +1,27 @@
 -- What the loops of `cell` turn on. A set has every production that adds to a cell, so its productions in turn add the cell's candidates;
 -- and a production that was passed has left no item out, so a later one that makes the same items may be left out.
 use Prim.Native.Nat.{ℕ, zero, suc, ◌+◌, ◌-◌, ◌*◌, ◌/◌, ◌≤◌, ◌<◌}
-use native.Mathlib.Nat.{mul_comm, mul-le-mul}
+use native.Mathlib.Nat.{mul_comm}
 use native.Mathlib.Omega.{arith}
 use native.Mathlib.Numerals.{add-one}
 use native.Mathlib.Decide.{dec_lt, ℕ_discrete}
 use mathlib.Core.Path.{◌≡◌, refl, sym, ◌∙◌, ap, ap₂, subst}
 use mathlib.Core.Logic.{inl, inr}
-use mathlib.Core.Bool.{Bool, true, false}
+use mathlib.Core.Bool.{Bool}
 use mathlib.Core.List.Memᴰ
-use mathlib.Core.List.{List, [], ◌∷◌, ◌++◌, append-nil, Memᴰ}
+use mathlib.Core.List.{List, [], ◌++◌, append-nil, Memᴰ}
 use mathlib.Core.Option.{Option, none, some}
 use lib.ListN.{length, get_or, get_elem?}
 use borrow.Author.Tests.{eq-eqb, ne_eqb}
-use Rattle.grammar.specs.Lists.{only}
 use Rattle.grammar.specs.Rewriting.{Rule, Lexical, Spine}
 use Rattle.grammar.specs.Items.{bare}
-use Rattle.grammar.specs.ItemList.{item}
-use Rattle.grammar.specs.Chart.{Record, recorded, nowhere, item_of}
-use Rattle.layout.specs.Card.{max_nonterminals, max_productions, production_count, production, grammar_of}
-use Rattle.layout.specs.Line.{most_words}
-use Rattle.card.specs.Productions.{rule_from}
-use Rattle.card.specs.declared.Production.{Production}
-use Rattle.card.specs.declared.Production.TheVariants.{Word}
+use Rattle.grammar.specs.Chart.{Record, item_of}
+use Rattle.layout.specs.Card.{max_productions, production_count, production, grammar_of}
 use Rattle.places.specs.Places.{word_test}
 use Rattle.chart_model.specs.Build.{flat_up, rule_at, by_word, across_splits, by_rule_over, by_production, candidates}
 use Rattle.chart_model.proofs.BuildLaws.{flat_up-in}
 use Rattle.chart_model.proofs.Absent.{flat_up-none}
-use Rattle.bits.specs.Bits.{bit_of, holds_bit, Least}
+use Rattle.bits.specs.Bits.{bit_of, Least}
 use Rattle.bits.proofs.BitLaws.{bit_of-below}
 use Rattle.bits.proofs.BitSets.{Walk, walk-has, walk-passed, walk_end}
 use Rattle.records.specs.Room.{chart_in, foot_number}
@@ -42,7 +36,7 @@ use Rattle.steps.proofs.StepLaws.{flat_up-add, loop-kept}
 use Rattle.steps.proofs.StepCover.{Known, known-none, Advancing, advance-has}
 use Rattle.sets.specs.Spans.{SplitsOf}
 use Rattle.sets.specs.Like.{LikeBefore}
-use Rattle.chart.specs.Cell.{splits_add, chosen, CellGiven, Turn, CellSet, SetFor, one_of, is_word_of}
+use Rattle.chart.specs.Cell.{splits_add, chosen, CellGiven, Turn, CellSet, SetFor, one_of}
 
 -- Places at which two functions agree; places past the last at which there is anything.
 flat_up-same : {A : Type 0} (f g : ℕ → List A) (from m : ℕ) → ((k : ℕ) → from ≤ k → k < from + m → f k ≡ g k)
@@ -153,7 +147,7 @@ pub given-kept : {card sets : List ℕ} {cell : OpenCell} {F : List Record → �
     → CellGiven card sets cell old → CellGiven card sets cell mid
 given-kept {card} {sets} {cell} {old = old} {mid = mid} l f given =
     let kept : begun_with cell mid ≡ begun_with cell old = loop-kept l.looped cell.base f.begun in
-    record { accepted = given.accepted; names = given.names; long = given.long; splits = rw kept given.splits }
+    record { names = given.names; long = given.long; splits = rw kept given.splits }
 
 -- A loop over them is at p: every candidate of a production before p has its item among the records.
 pub past-known : (card places : List ℕ) {cell : OpenCell} {set : ℕ} {old old_marks old_cells mid mid_marks cells : List ℕ} {count p total : ℕ}
@@ -186,39 +180,10 @@ left_out card {chart = chart} {cell} {count = count} {p} given turn before of k 
           (omega arith) n))
     ]
 
--- Word productions, of A or another nonterminal, for a set of words.
-pub other-left : (r : Production) (left word A words : ℕ) → r ≡ Word left word → (left ≡ A → ⊥) → false ≡ is_word_of A words (rule_from r)
-other-left r left word A words e d = rw (e, ne_eqb left A d)
-
-pub own-left : {t : Bool} (r : Production) (left word A words : ℕ) → r ≡ Word left word → left ≡ A → t ≡ holds_bit word words
-    → t ≡ is_word_of A words (rule_from r)
-own-left r left word A words e o h = h ∙ rw (e, eq-eqb left A o)
-
-by-word : (words A i p : ℕ) (r : Rule) → by_word (one_of words) A i p r
-    ≡ only (is_word_of A words r) (recorded (item A i (suc i) bare) p nowhere nowhere nowhere)
-by-word words A i p (Lexical A' w) = refl
-by-word words A i p (Spine A' a before D after) = refl
-
--- Production p is one of these, or it is not.
-module _ (words A i p : ℕ) (r : Rule) where
-  pub word-one : (j : ℕ) → j ≡ i + 1 → is_word_of A words r ≡ true
-      → recorded (item A i j bare) p nowhere nowhere nowhere ∷ [] ≡ by_word (one_of words) A i p r
-  word-one j e t = rw (by-word words A i p r, t, e, add-one)
-
-  pub word_none : is_word_of A words r ≡ false → [] ≡ by_word (one_of words) A i p r
-  word_none t = rw (by-word words A i p r, t)
-
--- The bare item's number from the words and the nonterminals, and that computing it needs no large number.
+-- The bare item's number from the words and the nonterminals.
 module _ (n N : ℕ) where
   triangle : n * (n + 1) / 2 ≡ spans n
   triangle = rw add-one (omega (arith, spans-twice n))
 
   pub bare-number : N * (n * (n + 1) / 2) * 8 ≡ foot_number n N bare
   bare-number = rw triangle (omega (arith, mul_comm N (spans n)))
-
-  pub bare-small : n ≤ most_words → N ≤ max_nonterminals → (n * (n + 1) ≤ 600) × (N * (n * (n + 1) / 2) ≤ 4800)
-  bare-small h k =
-      let few : n + 1 ≤ 25 = omega arith in
-      let square : n * (n + 1) ≤ 24 * 25 = mul-le-mul h few in
-      let half : n * (n + 1) / 2 ≤ 300 = omega arith in
-      (square, mul-le-mul k half)

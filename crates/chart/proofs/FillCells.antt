@@ -16,6 +16,7 @@ use Rattle.chart_model.specs.Build.{places, bare_places, add_each, fill_cell}
 use Rattle.chart_model.proofs.FillModel.{IsCell, Grown, same, cell-grown, bare_at, places-own, fresh-among}
 use Rattle.records.specs.declared.cells.Range.{Range}
 use Rattle.records.specs.declared.record.OpenCell.{OpenCell}
+use Rattle.records.specs.declared.span.Span.{Span}
 use Rattle.records.specs.Room.{chart_in, state_of}
 use Rattle.records.specs.Cells.{cell_at, number_of, numbered_by, with_range, bare_in, SpanFits}
 use Rattle.records.specs.Cover.{Covered, Advanced}
@@ -31,16 +32,16 @@ use Rattle.chart.specs.Fill.{Between, Filled, OpenedAt}
 use Rattle.chart.proofs.FillLaws.{state-some, state-over, bare_from-at, bare_from-le, own-bares, indexed-more, marks-clear}
 
 -- The struct of an opened cell in one piece.
-pub opened-is : {sizes : Sizes} {A i j base : ℕ} {cell : OpenCell} → OpenedAt sizes A i j base cell
+pub opened-is : {sizes : Sizes} {A base : ℕ} {span : Span} {cell : OpenCell} → OpenedAt sizes A span base cell
     → cell ≡ record {
       words = sizes.words;
       symbols = sizes.symbols;
       room = sizes.room;
       base = base;
-      number = cell_at sizes.symbols A i j;
+      number = cell_at sizes.symbols A span.from span.to;
       left = A;
-      from = i;
-      to = j;
+      from = span.from;
+      to = span.to;
     }
 opened-is o = λ k. record {
   words = o.words k;

@@ -26,6 +26,7 @@ use Rattle.bits.specs.Bits.{bit_of}
 use Rattle.bits.proofs.BitLaws.{bit_of-zero, bit_of-and}
 use Rattle.bits.proofs.BitSets.{and_zero, bit-one}
 use Rattle.records.specs.declared.record.OpenCell.{OpenCell}
+use Rattle.records.specs.declared.span.Span.{Span}
 use Rattle.records.specs.Room.{chart_in}
 use Rattle.sets.specs.Places.{splits_at, OnlyMeeting, OnlySpans}
 use Rattle.sets.specs.Classes.{Classified}
@@ -185,19 +186,23 @@ span-skip {g} {room = room} {places = places} {sets' = sets'} {i = i} {j} b foun
     fold-skip (fill_cell room g (word_test places) (j - i) i) A _ sofar (idle-turn room b found ij jn A (sym sofar.model) sets' only A l z)
 
 -- The turn of a cell in a span.
-abbrev pub cell_turn : List ℕ → List ℕ → Sizes → ℕ → ℕ → ℕ → Option (List Record) → Option (List Record)
-cell_turn card places sizes i j = fill_cell sizes.room (grammar_of card) (word_test places) (j - i) i
+abbrev pub cell_turn : List ℕ → List ℕ → Sizes → Span → ℕ → Option (List Record) → Option (List Record)
+cell_turn card places sizes span = fill_cell sizes.room (grammar_of card) (word_test places) (span.to - span.from) span.from
 
 -- The next cell of a span is opened: it may be filled, and what filling it leaves is a turn of the model.
-module _ {sizes : Sizes} {total i j A : ℕ} {cell : OpenCell} (opened : OpenedAt sizes A i j total cell) where
+module _ {sizes : Sizes} {total A : ℕ} {span : Span} {cell : OpenCell} (opened : OpenedAt sizes A span total cell) where
   pub turn-fillable : {card chart marks cells sets places mid marks' cells' sets' : List ℕ} {count set : ℕ}
-      → Ready card sizes chart marks cells sets count → SpanSet places i j sets set → i < j → j ≤ sizes.words
-      → ((B : ℕ) → positions (chart_in chart count) B i j ≡ []) → OnlySpans sets sets'
-      → FilledTo card sizes (fold_up (cell_turn card places sizes i j) A (some (chart_in chart count))) chart mid marks' cells' sets' (Some total)
+      → Ready card sizes chart marks cells sets count → SpanSet places span.from span.to sets set
+      → span.words ≡ sizes.words → ((B : ℕ) → positions (chart_in chart count) B span.from span.to ≡ []) → OnlySpans sets sets'
+      → FilledTo card sizes (fold_up (cell_turn card places sizes span) A (some (chart_in chart count))) chart mid marks' cells' sets' (Some total)
       → A < sizes.symbols → Fillable card places cell mid marks' cells' sets' (bit_and (get_or sets' A 0) set)
-  turn-fillable {card} {chart} {places = places} {mid} {marks'} {cells'} {sets'} {count} {set} r found ij jn empty only sofar l =
+  turn-fillable {card} {chart} {places = places} {mid} {marks'} {cells'} {sets'} {count} {set} r found words empty only sofar l =
       let b = r.between in
       let state = sym sofar.model in
+      let i = span.from in
+      let j = span.to in
+      let ij = span.some in
+      let jn : j ≤ sizes.words = omega (arith, span.inside, words) in
       subst (λ (x : OpenCell). Fillable card places x mid marks' cells' sets' (bit_and (get_or sets' A 0) set)) (sym (opened-is opened))
       record {
         between = sofar.ready;
@@ -205,7 +210,6 @@ module _ {sizes : Sizes} {total i j A : ℕ} {cell : OpenCell} (opened : OpenedA
         numbered = refl;
         fresh = fresh-turn (chart_in chart count) sizes.room (grammar_of card) (word_test places) i j A (empty A) state;
         given = record {
-          accepted = r.accepted;
           names = r.names;
           long = omega (arith, only.0, b.sorted.rows.long);
           splits = turn-splits sizes.room b found ij jn A state sets' only;
@@ -215,7 +219,7 @@ module _ {sizes : Sizes} {total i j A : ℕ} {cell : OpenCell} (opened : OpenedA
 
   pub turn-filled : {after : Answer ℕ} (card places : List ℕ) {mid new marks cells sets : List ℕ}
       → Filled (grammar_of card) cell.words cell.symbols cell.room (filled_cell card places cell mid) mid new marks cells sets after
-      → FilledTo card sizes (cell_turn card places sizes i j A (some (chart_in mid total))) mid new marks cells sets after
+      → FilledTo card sizes (cell_turn card places sizes span A (some (chart_in mid total))) mid new marks cells sets after
   turn-filled {after} card places {mid} {new} {marks} {cells} {sets} f =
       subst (λ (x : OpenCell). Filled (grammar_of card) x.words x.symbols x.room (filled_cell card places x mid) mid new marks cells sets after)
       (opened-is opened) f

@@ -1,29 +1,17 @@
--- What the builder asks and promises.
+-- What the builder promises, and what it asks of its tables.
 use Rattle.std.specs.Prelude.{ℕ, ◌*◌, ◌≤◌, ◌<◌, ◌≡◌, Bool, cond, List, ◌++◌, length, drop, replicate, Option, Some, None}
-use Rattle.grammar.specs.Input.{Holds, Below}
+use Rattle.grammar.specs.Input.{Holds}
 use Rattle.grammar.specs.ItemList.{items}
 use Rattle.grammar.specs.Chart.{Record, IsChart}
 use Rattle.grammar.specs.Ways.{FirstSteps}
-use Rattle.layout.specs.Card.{card_number, nonterminal_count, grammar_of}
-use Rattle.layout.specs.Line.{most_words}
-use Rattle.layout.specs.Records.{record_length, chart_bytes}
+use Rattle.layout.specs.Card.{nonterminal_count, grammar_of}
+use Rattle.layout.specs.Records.{record_length, chart_bytes, capacity}
 use Rattle.layout.specs.Answers.{outnumber, ChartState, whole, zeroed, untouched, chart_state}
 use Rattle.places.specs.Places.{word_test}
 use Rattle.chart_model.specs.Build.{build}
 use Rattle.records.specs.Cells.{spans}
 use Rattle.sets.specs.Places.{set_count}
 use Rattle.chart.specs.Fill.{Closed}
-
--- An accepted card, and sets of words at no more places than a line may have, none past the first n.
-pub record Buildable (card places : List ℕ) (n : ℕ) : Type 0 where
-  pub accepted : card_number card ≡ 0
-  pub short : n ≤ most_words
-  pub below : Below (Holds (word_test places)) n
-
--- A room for so many records.
-pub record RoomLent (room : ℕ) (chart : List ℕ) : Type 0 where
-  pub small : room ≤ 65535
-  pub there : record_length * room ≤ length chart
 
 -- Lengths that are enough for n words under N nonterminals; and tables of such lengths, all 0.
 pub record LongEnough (n N marks cells sets : ℕ) : Type 0 where
@@ -37,9 +25,10 @@ pub record TablesLent (n N : ℕ) (marks cells sets : List ℕ) : Type 0 where
   pub sets_zero : sets ≡ replicate (length sets) 0
   pub long : LongEnough n N (length marks) (length cells) (length sets)
 
--- The chart of n words was built in a room for so many records.
-abbrev pub ClosedIn : List ℕ → List ℕ → ℕ → ℕ → List ℕ → List ℕ → Option ℕ → Type 0
-ClosedIn card places n room old new after =
+-- The chart of n words was built in a room, with as many records as it holds at most.
+abbrev pub ClosedIn : List ℕ → List ℕ → ℕ → List ℕ → List ℕ → Option ℕ → Type 0
+ClosedIn card places n old new after =
+    let room = capacity (length old) in
     Closed n (nonterminal_count card) room (build room (grammar_of card) (word_test places) (nonterminal_count card) n) old new after
 
 -- Document 01's number and count of items for each answer. Whether a line with a chart is read or has no reading, 0 or 25, is seen only when

@@ -7,7 +7,7 @@ use Rattle.std.proofs.Math.ListN.{get_elem?}
 use Rattle.grammar.specs.Rewriting.{Rule, Lexical, Spine}
 use Rattle.grammar.specs.ItemList.{is_bare}
 use Rattle.grammar.specs.Chart.{Record, item_of}
-use Rattle.layout.specs.Card.{nonterminal_count, production, production_count, card_number, grammar_of}
+use Rattle.layout.specs.Card.{nonterminal_count, production, production_count, grammar_of}
 use Rattle.places.specs.Places.{word_test}
 use Rattle.chart_model.specs.Build.{across_splits, by_rule_over, by_production, candidates}
 use Rattle.bits.specs.Bits.{bit_of, holds_bit}
@@ -31,9 +31,8 @@ rule_adds card places cell p b =
 abbrev pub cell_adds : List ℕ → List ℕ → OpenCell → List Record → List Record
 cell_adds card places cell b = candidates (grammar_of card) (word_test places) b cell.left cell.from (cell.to - cell.from)
 
--- An accepted card, whose nonterminals the open cell counts, and what meets at the splits of its span.
+-- A card whose nonterminals the open cell counts, and what meets at the splits of its span.
 pub record CellGiven (card sets : List ℕ) (cell : OpenCell) (chart : List ℕ) : Type 0 where
-  pub accepted : card_number card ≡ 0
   pub names : cell.symbols ≡ nonterminal_count card
   pub long : spans_at ≤ length sets
   pub splits : Splits (grammar_of card) (begun_with cell chart) cell.from cell.to sets

@@ -5,7 +5,7 @@ use Rattle.std.proofs.Math.Option.{Option, none, some}
 use Rattle.grammar.specs.Rewriting.{Rule}
 use Rattle.grammar.specs.Items.{Foot}
 use Rattle.grammar.specs.Chart.{Record}
-use Rattle.layout.specs.Card.{max_nonterminals, card_number, nonterminal_count, grammar_of}
+use Rattle.layout.specs.Card.{max_nonterminals, nonterminal_count, grammar_of}
 use Rattle.layout.specs.Line.{most_words}
 use Rattle.places.specs.Places.{word_test}
 use Rattle.chart_model.specs.Build.{places as positions, fill_cell}
@@ -14,6 +14,7 @@ use Rattle.records.specs.Cells.{spans, cell_at, SpanFits, Indexed}
 use Rattle.records.specs.Cover.{Covered}
 use Rattle.records.specs.Filling.{begun_with}
 use Rattle.records.specs.declared.record.OpenCell.{OpenCell}
+use Rattle.records.specs.declared.span.Span.{Span}
 use Rattle.sets.specs.Classes.{Classified, OfWords}
 use Rattle.sets.specs.Spans.{Sorted, Met, Meets}
 use Rattle.chart.specs.declared.build.Sizes.{Sizes}
@@ -50,7 +51,6 @@ pub record Filled (g : List Rule) (n N room : ℕ) (s : Option (List Record)) (o
 
 -- The same for a line and a card of such sizes.
 pub record Ready (card : List ℕ) (sizes : Sizes) (chart marks cells sets : List ℕ) (count : ℕ) : Type 0 where
-  pub accepted : card_number card ≡ 0
   pub names : sizes.symbols ≡ nonterminal_count card
   pub between : Between (grammar_of card) sizes.words sizes.symbols sizes.room chart marks cells sets count
 
@@ -59,15 +59,15 @@ FilledTo card sizes s old new marks cells sets after =
     Filled (grammar_of card) sizes.words sizes.symbols sizes.room s old new marks cells sets after
 
 -- A cell is opened: the struct says which, and that it was begun with the records that stand.
-pub record OpenedAt (sizes : Sizes) (A i j begun : ℕ) (cell : OpenCell) : Type 0 where
+pub record OpenedAt (sizes : Sizes) (A : ℕ) (span : Span) (begun : ℕ) (cell : OpenCell) : Type 0 where
   pub words : cell.words ≡ sizes.words
   pub symbols : cell.symbols ≡ sizes.symbols
   pub room : cell.room ≡ sizes.room
   pub base : cell.base ≡ begun
   pub left : cell.left ≡ A
-  pub from : cell.from ≡ i
-  pub to : cell.to ≡ j
-  pub number : cell.number ≡ cell_at sizes.symbols A i j
+  pub from : cell.from ≡ span.from
+  pub to : cell.to ≡ span.to
+  pub number : cell.number ≡ cell_at sizes.symbols A span.from span.to
 
 -- A cell that is to be filled: between two cells, with no records of its own yet, and a set that has every production that can add to it.
 pub record Fillable (card places : List ℕ) (cell : OpenCell) (chart marks cells sets : List ℕ) (set : ℕ) : Type 0 where

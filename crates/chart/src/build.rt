@@ -2,7 +2,6 @@
 ghost use Rattle.std.specs.Prelude.{◌≡◌, [], ℕ, ◌+◌, ◌-◌, ◌≤◌, ◌<◌};
 ghost use Rattle.std.proofs.Math.Option.{some};
 ghost use Rattle.layout.specs.Card.{max_nonterminals, grammar_of};
-ghost use Rattle.layout.specs.Line.{most_words};
 ghost use Rattle.places.specs.Places.{word_test};
 ghost use Rattle.chart_model.specs.Build.{places as positions, close_span, close_end, build};
 ghost use Rattle.records.specs.Room.{chart_in};
@@ -10,11 +9,14 @@ ghost use Rattle.sets.specs.Places.{OnlyMeeting, OnlySpans};
 ghost use Rattle.sets.specs.Spans.{Rows};
 ghost use Rattle.chart.specs.Fill.{Filled, Ready, FilledTo, OpenedAt, Fillable, filled_cell, SpanSet, Closed};
 
-use card::Card;
+use crate::input::Input;
 use places::Words;
 use records::record::OpenCell;
+use records::span::Span;
 
-// The line's words, the card's nonterminals, and the items that the room holds.
+// The line's words, the card's nonterminals, and the items that the room holds. Tried without the words, which the input counts too: behind its
+// reference they are read anew for every span, and the builder took an eighth more instructions. That the nonterminals are few is asked where it
+// is needed and no ghost field: the definitions by which one would say it name this struct.
 #[derive(Clone, Copy)]
 pub struct Sizes {
     pub words: usize,
@@ -22,21 +24,23 @@ pub struct Sizes {
     pub room: usize,
 }
 
-// The cell of nonterminal a over i to j, begun with so many records.
-fn open_cell(sizes: Sizes, a: usize, i: usize, j: usize, base: usize) -> OpenCell
-    requires { (sizes.words ≤ most_words) × (sizes.symbols ≤ max_nonterminals) × (a < sizes.symbols) × (i < j) × (j ≤ sizes.words) }
-    ensures { OpenedAt sizes a i j base result }
-{
-    let number = records::cells::cell_at(sizes.words, sizes.symbols, a, i, j);
-    OpenCell {
-        words: sizes.words,
-        symbols: sizes.symbols,
-        room: sizes.room,
-        base,
-        number,
-        left: a as u8,
-        from: i as u8,
-        to: j as u8,
+impl Sizes {
+    // The cell of nonterminal a over a span, begun with so many records.
+    fn open_cell(self, a: usize, span: Span, base: usize) -> OpenCell
+        requires { (self.symbols ≤ max_nonterminals) × (a < self.symbols) }
+        ensures { OpenedAt self a span base result }
+    {
+        // A record has a byte for each of the last three, there is no `From`, and that they fit is proved.
+        OpenCell {
+            words: self.words,
+            symbols: self.symbols,
+            room: self.room,
+            base,
+            number: span.cell(self.symbols, a),
+            left: a as u8,
+            from: span.from as u8,
+            to: span.to as u8,
+        }
     }
 }
 
@@ -48,17 +52,16 @@ fn fill_cell(
     cells: &mut [u16],
     sets: &mut [u64],
     cell: OpenCell,
-    card: Card,
-    words: &Words,
+    input: Input,
     set: u64,
 ) -> Option<usize>
-    requires { Fillable card.bytes.now words.now.places cell chart.old marks.old cells.old sets.old set }
-    ensures { Filled (grammar_of card.entry.bytes.now) cell.words cell.symbols cell.room
-        (filled_cell card.entry.bytes.now words.now.places cell chart.old)
+    requires { Fillable input.card.bytes.now input.words.now.places cell chart.old marks.old cells.old sets.old set }
+    ensures { Filled (grammar_of input.entry.card.bytes.now) cell.words cell.symbols cell.room
+        (filled_cell input.entry.card.bytes.now input.entry.words.now.places cell chart.old)
         chart.old chart.new marks.new cells.new sets.new result
         × OnlySpans sets.old sets.new }
 {
-    let total = crate::cell::fill_items(chart, marks, cells, sets, cell, card, words, set)?;
+    let total = crate::cell::fill_items(chart, marks, cells, sets, cell, input, set)?;
     if total != cell.base {
         let range = crate::cell::finish(chart, marks, cell, total);
         records::cells::put_range(cells, cell.number, range);
@@ -68,15 +71,15 @@ fn fill_cell(
 }
 
 // What can add to a span: the word productions for the words of its place, or those with both elements at some split.
-fn span_set(sets: &mut [u64], n: usize, i: usize, j: usize, words: &Words) -> u64
-    requires { (n ≤ most_words) × (i < j) × (j ≤ n) × Rows n sets.old }
-    ensures { SpanSet words.now.places i j sets.new result × OnlyMeeting sets.old sets.new }
+fn span_set(sets: &mut [u64], span: Span, words: &Words) -> u64
+    requires { Rows span.words sets.old }
+    ensures { SpanSet words.now.places span.from span.to sets.new result × OnlyMeeting sets.old sets.new }
 {
-    if j - i == 1 {
+    if span.to - span.from == 1 {
         sets::meet_none(sets);
-        return sets::of_words(sets, words.places[i]);
+        return sets::of_words(sets, words.places[span.from]);
     }
-    sets::meet(sets, n, i, j)
+    sets::meet(sets, span)
 }
 
 // One span, nonterminal by nonterminal. One that has no production in the span's set adds nothing.
@@ -86,20 +89,18 @@ fn close_span(
     cells: &mut [u16],
     sets: &mut [u64],
     sizes: Sizes,
-    i: usize,
-    j: usize,
-    card: Card,
-    words: &Words,
+    span: Span,
+    input: Input,
     count: usize,
 ) -> Option<usize>
-    requires { Ready card.bytes.now sizes chart.old marks.old cells.old sets.old count × (i < j) × (j ≤ sizes.words)
-        × ((A : ℕ) → positions (chart_in chart.old count) A i j ≡ []) }
-    ensures { FilledTo card.entry.bytes.now sizes
-        (close_span sizes.room (grammar_of card.entry.bytes.now) (word_test words.now.places) sizes.symbols (j - i) i
-        (some (chart_in chart.old count)))
+    requires { Ready input.card.bytes.now sizes chart.old marks.old cells.old sets.old count × (span.words ≡ sizes.words)
+        × ((A : ℕ) → positions (chart_in chart.old count) A span.from span.to ≡ []) }
+    ensures { FilledTo input.entry.card.bytes.now sizes
+        (close_span sizes.room (grammar_of input.entry.card.bytes.now) (word_test input.entry.words.now.places) sizes.symbols
+        (span.to - span.from) span.from (some (chart_in chart.old count)))
         chart.old chart.new marks.new cells.new sets.new result }
 {
-    let set = span_set(sets, sizes.words, i, j, words);
+    let set = span_set(sets, span, input.words);
     if set == 0 {
         return Some(count);
     }
@@ -109,8 +110,8 @@ fn close_span(
         if productions == 0 {
             continue;
         }
-        let cell = open_cell(sizes, a, i, j, total);
-        total = fill_cell(chart, marks, cells, sets, cell, card, words, productions)?;
+        let cell = sizes.open_cell(a, span, total);
+        total = fill_cell(chart, marks, cells, sets, cell, input, productions)?;
     }
     Some(total)
 }
@@ -123,31 +124,24 @@ fn close_end(
     sets: &mut [u64],
     sizes: Sizes,
     e: usize,
-    card: Card,
-    words: &Words,
+    input: Input,
     count: usize,
 ) -> Option<usize>
-    requires { Ready card.bytes.now sizes chart.old marks.old cells.old sets.old count × (e < sizes.words)
+    requires { Ready input.card.bytes.now sizes chart.old marks.old cells.old sets.old count × (e < sizes.words)
         × ((A i : ℕ) → positions (chart_in chart.old count) A i (e + 1) ≡ []) }
-    ensures { FilledTo card.entry.bytes.now sizes
-        (close_end sizes.room (grammar_of card.entry.bytes.now) (word_test words.now.places) sizes.symbols e
+    ensures { FilledTo input.entry.card.bytes.now sizes
+        (close_end sizes.room (grammar_of input.entry.card.bytes.now) (word_test input.entry.words.now.places) sizes.symbols e
         (some (chart_in chart.old count)))
         chart.old chart.new marks.new cells.new sets.new result }
 {
     let mut total = count;
     for i in (0..=e).rev() {
-        total = close_span(
-            chart,
-            marks,
-            cells,
-            sets,
-            sizes,
-            i,
-            e + 1,
-            card,
-            words,
-            total,
-        )?;
+        let span = Span {
+            words: sizes.words,
+            from: i,
+            to: e + 1,
+        };
+        total = close_span(chart, marks, cells, sets, sizes, span, input, total)?;
     }
     Some(total)
 }
@@ -159,17 +153,16 @@ pub fn close_all(
     cells: &mut [u16],
     sets: &mut [u64],
     sizes: Sizes,
-    card: Card,
-    words: &Words,
+    input: Input,
 ) -> Option<usize>
-    requires { Ready card.bytes.now sizes chart.old marks.old cells.old sets.old 0 }
+    requires { Ready input.card.bytes.now sizes chart.old marks.old cells.old sets.old 0 }
     ensures { Closed sizes.words sizes.symbols sizes.room
-        (build sizes.room (grammar_of card.entry.bytes.now) (word_test words.now.places) sizes.symbols sizes.words)
+        (build sizes.room (grammar_of input.entry.card.bytes.now) (word_test input.entry.words.now.places) sizes.symbols sizes.words)
         chart.old chart.new result }
 {
     let mut total = 0;
     for e in 0..sizes.words {
-        total = close_end(chart, marks, cells, sets, sizes, e, card, words, total)?;
+        total = close_end(chart, marks, cells, sets, sizes, e, input, total)?;
     }
     Some(total)
 }

@@ -1,4 +1,6 @@
 // One cell: the items of A over i to j.
+// Room, marks and cells are a parameter each here, for the reason at `records::add`.
+// Narrowed by `as`: a production. A record has a byte for it, there is no `From`, and that it fits is proved.
 ghost use Rattle.std.specs.Prelude.{◌≡◌, ◌+◌, ◌≤◌, ◌<◌};
 ghost use Rattle.layout.specs.Card.{max_productions};
 ghost use Rattle.card.specs.Productions.{rule_from};
@@ -6,8 +8,8 @@ ghost use Rattle.chart_model.specs.Build.{by_word};
 ghost use Rattle.records.specs.Filling.{begun_with, WorksOn, AddedTo, Filling, AdvancedTo};
 ghost use Rattle.chart.specs.Cell.{splits_add, rule_adds, cell_adds, CellGiven, Turn, SetFor, one_of, is_word_of, Finished};
 
+use crate::input::Input;
 use card::{Card, Production};
-use places::Words;
 use records::cells::Range;
 use records::record::{Foot, NOWHERE, OpenCell, Origin};
 
@@ -74,9 +76,7 @@ fn across_splits(
     let splits = sets::splits_of(sets, p, like);
     let mut total = count;
     for k in bits::numbers(splits) {
-        total = steps::step::by_production(
-            chart, marks, cells, cell, k as u8, p as u8, rule, total,
-        )?;
+        total = steps::step::by_production(chart, marks, cells, cell, k, p as u8, rule, total)?;
     }
     Some(total)
 }
@@ -88,15 +88,14 @@ fn by_rule_over(
     cells: &mut [u16],
     sets: &[u64],
     cell: OpenCell,
-    card: Card,
-    words: &Words,
+    input: Input,
     set: u64,
     p: usize,
     count: usize,
 ) -> Option<usize>
-    requires { Filling cell chart.old marks.old cells.old count × CellGiven card.bytes.now sets.now cell chart.old
-        × Turn card.bytes.now cell chart.old count p }
-    ensures { AdvancedTo cell (rule_adds card.entry.bytes.now words.now.places cell p (begun_with cell chart.old))
+    requires { Filling cell chart.old marks.old cells.old count × CellGiven input.card.bytes.now sets.now cell chart.old
+        × Turn input.card.bytes.now cell chart.old count p }
+    ensures { AdvancedTo cell (rule_adds input.entry.card.bytes.now input.entry.words.now.places cell p (begun_with cell chart.old))
         chart.old marks.old cells.old count chart.new marks.new cells.new result }
 {
     let from = usize::from(cell.from);
@@ -107,12 +106,12 @@ fn by_rule_over(
             marks,
             cell,
             p,
-            card.production(p),
-            words.places[from],
+            input.card.production(p),
+            input.words.places[from],
             count,
         );
     }
-    across_splits(chart, marks, cells, sets, cell, card, set, p, count)
+    across_splits(chart, marks, cells, sets, cell, input.card, set, p, count)
 }
 
 // The candidates of the cell, production by production of a set that has all that can add to it.
@@ -122,18 +121,17 @@ pub fn fill_items(
     cells: &mut [u16],
     sets: &[u64],
     cell: OpenCell,
-    card: Card,
-    words: &Words,
+    input: Input,
     set: u64,
 ) -> Option<usize>
-    requires { Filling cell chart.old marks.old cells.old cell.base × CellGiven card.bytes.now sets.now cell chart.old
-        × SetFor card.bytes.now words.now.places cell chart.old set }
-    ensures { AdvancedTo cell (cell_adds card.entry.bytes.now words.now.places cell (begun_with cell chart.old))
+    requires { Filling cell chart.old marks.old cells.old cell.base × CellGiven input.card.bytes.now sets.now cell chart.old
+        × SetFor input.card.bytes.now input.words.now.places cell chart.old set }
+    ensures { AdvancedTo cell (cell_adds input.entry.card.bytes.now input.entry.words.now.places cell (begun_with cell chart.old))
         chart.old marks.old cells.old cell.base chart.new marks.new cells.new result }
 {
     let mut total = cell.base;
     for p in bits::numbers(set) {
-        total = by_rule_over(chart, marks, cells, sets, cell, card, words, set, p, total)?;
+        total = by_rule_over(chart, marks, cells, sets, cell, input, set, p, total)?;
     }
     Some(total)
 }

@@ -6,19 +6,22 @@ use native.Mathlib.Decide.{dec_lt}
 use mathlib.Core.Path.{◌≡◌, refl, sym, ◌∙◌, ap, subst}
 use mathlib.Core.List.{List, [], ◌∷◌, ◌++◌}
 use mathlib.Core.Option.{Option, some}
+use mathlib.Core.Logic.{∥∥₁_elim}
+use Rattle.std.proofs.Props.{props}
 use lib.ListN.{length, take, drop, get_elem?, length-append, length-map, length-drop, drop_of_length-le, take-append-drop}
 use lib.Seq.{length-take-le}
 use Rattle.grammar.specs.Rewriting.{Rule, Action, Take, Keep, Give}
 use Rattle.grammar.specs.Plan.{PlanStep, production_in}
-use Rattle.grammar.specs.Pairs.{Stretch, side_of, place_in, Pair}
+use Rattle.grammar.specs.Pairs.{Stretch, stretch, side_of, place_in, Pair}
 use Rattle.grammar.specs.Matching.{takes_action, takes_rule, takes_of, matched_action, matched_rule, matched, one_give}
 use Rattle.grammar.proofs.StandsLaws.{none-some, some_same}
 use Rattle.grammar.proofs.PairsLaws.{matched_action-length}
-use Rattle.layout.specs.Card.{card_number, production_count, grammar_of}
+use Rattle.layout.specs.Card.{production_count, grammar_of}
 use Rattle.layout.specs.Steps.{steps_of, pairs_bytes}
 use Rattle.layout.specs.Answers.{plan_pairs, pairs_after}
 use Rattle.goals.specs.Shown.{action_of}
-use Rattle.check_pairs.specs.Matching.{Checked, stretch_from, HasWords, step_of, rule_in, StepIn, started, CanGive, CanMatch, met, room_met, Matches}
+use Rattle.check_pairs.specs.Checked.{Checked}
+use Rattle.check_pairs.specs.Matching.{stretch_from, HasWords, step_of, rule_in, StepIn, started, CanGive, CanMatch, met, room_met, Matches}
 use Rattle.check_pairs.specs.declared.matching.Stretch as code
 use Rattle.card.specs.declared.Action as read
 use Rattle.card.specs.Productions.{action_from}
@@ -88,13 +91,7 @@ module _ (card plan : List ℕ) where
   abbrev pub Writing : List ℕ → ℕ → ℕ → Matching → List ℕ → Type 0
   Writing before count k at room = Matches before count (takes_from k) (pairs_from k) at room
 
-module _ (card plan : List ℕ) (y : Checked card plan) where
-  x : Passed card plan
-  x = passed card y.0 plan y.1
-
-  pub card-accepted : card_number card ≡ 0
-  card-accepted = x.accepted
-
+module _ (card plan : List ℕ) (x : Passed card plan) where
   -- A step in its place: the rest of the plan is paced, and the step's production is one of the card's.
   module _ (k : ℕ) (h : 4 * k + 4 ≤ length plan) where
     here : drop k (plan_of plan) ≡ step_of plan k ∷ drop (suc k) (plan_of plan)
@@ -108,17 +105,17 @@ module _ (card plan : List ℕ) (y : Checked card plan) where
     paced-here : Paced (grammar_of card) (step_of plan k ∷ drop (suc k) (plan_of plan))
     paced-here = rw here at (paced-drop k x.pace)
 
-    pub step-there : byte_at plan (4 * k) < production_count card
-    step-there = rule-below card (byte_at plan (4 * k)) (paced-rule paced-here).1
+    step_of_card : byte_at plan (4 * k) < production_count card
+    step_of_card = rule-below card (byte_at plan (4 * k)) (paced-rule paced-here).1
 
     step_back : Front (grammar_of card) (step_of plan k) (drop k (plan_of plan)) (drop (suc k) (plan_of plan)) (rule_in card plan k)
     step_back =
-        let e = rule-there card (byte_at plan (4 * k)) step-there in
+        let e = rule-there card (byte_at plan (4 * k)) step_of_card in
         rw here (front e paced-here (x.sides k (step_of plan k) (rule_in card plan k) (drop-stands (plan_of plan) k here) e))
 
-    pub gives-here : (n : ℕ) → n ≡ suc k
+    gives_back : (n : ℕ) → n ≡ suc k
         → length (pairs_from card plan k) ≡ one_give (action_of (rule_in card plan k)) + length (pairs_from card plan n)
-    gives-here n e = rw e (ap length step_back.pairs ∙ matched_action-length (action_of (rule_in card plan k)) _ _ (pairs_from card plan (suc k)))
+    gives_back n e = rw e (ap length step_back.pairs ∙ matched_action-length (action_of (rule_in card plan k)) _ _ (pairs_from card plan (suc k)))
 
   -- The steps are a quarter of the bytes.
   steps-length : length plan ≡ 4 * length (plan_of plan)
@@ -127,16 +124,16 @@ module _ (card plan : List ℕ) (y : Checked card plan) where
   nothing_left : (k : ℕ) → length plan / 4 ≤ k → drop k (plan_of plan) ≡ []
   nothing_left k h = drop_of_length-le (plan_of plan) (omega (arith, steps-length))
 
-  pub all-pairs : pairs_from card plan 0 ≡ plan_pairs card (steps_of plan)
-  all-pairs = sym x.pairs
+  pairs_all : pairs_from card plan 0 ≡ plan_pairs card (steps_of plan)
+  pairs_all = sym x.pairs
 
-  pub no-pairs : (k : ℕ) → length plan / 4 ≤ k → length (pairs_from card plan k) ≡ 0
-  no-pairs k h = ap (λ (l : List PlanStep). length (matched (grammar_of card) l)) (nothing_left k h)
+  pairs_over : (k : ℕ) → length plan / 4 ≤ k → length (pairs_from card plan k) ≡ 0
+  pairs_over k h = ap (λ (l : List PlanStep). length (matched (grammar_of card) l)) (nothing_left k h)
 
   -- Writing the pairs.
   module _ (before : List ℕ) (count : ℕ) where
-    pub writing_start : 2 * count ≤ length before → Writing card plan before count (length plan / 4) (started count) before
-    writing_start h = rw (nothing_left (length plan / 4) (omega arith)) (record {
+    starts : 2 * count ≤ length before → Writing card plan before count (length plan / 4) (started count) before
+    starts h = rw (nothing_left (length plan / 4) (omega arith)) (record {
       all_takes = refl;
       shown = refl;
       total = omega arith;
@@ -144,8 +141,8 @@ module _ (card plan : List ℕ) (y : Checked card plan) where
       written = sym (take-append-drop (2 * count) before);
     })
 
-    pub writing-length : (k : ℕ) (at : Matching) (room : List ℕ) → Writing card plan before count k at room → length room ≡ length before
-    writing-length k at room m =
+    writing_length : (k : ℕ) (at : Matching) (room : List ℕ) → Writing card plan before count k at room → length room ≡ length before
+    writing_length k at room m =
         let xs = pairs_from card plan k in
         let e = ap length m.written in
         let d = length-append (take (2 * at.unwritten) before) (pairs_bytes xs ++ drop (2 * count) before) in
@@ -155,17 +152,17 @@ module _ (card plan : List ℕ) (y : Checked card plan) where
         omega (arith, pairs-bytes-length xs, length-drop (2 * count) before, m.total, m.within)
 
     module _ (c : count ≡ length (plan_pairs card (steps_of plan))) where
-      pub writing-end : (at : Matching) (room : List ℕ) → Writing card plan before count 0 at room → room ≡ pairs_after (plan_pairs card (steps_of plan)) before
-      writing-end at room m =
-          finish room before at.unwritten count (pairs_from card plan 0) (plan_pairs card (steps_of plan)) all-pairs m.total c m.written
+      ends : (at : Matching) (room : List ℕ) → Writing card plan before count 0 at room → room ≡ pairs_after (plan_pairs card (steps_of plan)) before
+      ends at room m =
+          finish room before at.unwritten count (pairs_from card plan 0) (plan_pairs card (steps_of plan)) pairs_all m.total c m.written
 
       module _ (k n : ℕ) (next : n ≡ suc k) (h : 4 * k + 4 ≤ length plan) (at : Matching) (room : List ℕ)
           (w : Writing card plan before count n at room) {action : read.Action} {side : code.Stretch} (s : StepIn card plan k action side) where
         m : Writing card plan before count (suc k) at room
         m = rw next at w
 
-        pub writing-room : CanMatch (action_from action) (stretch_from side) room at
-        writing-room =
+        room_for : CanMatch (action_from action) (stretch_from side) room at
+        room_for =
             let f = step_back k h in
             let ts = takes_from card plan (suc k) in
             let xs = pairs_from card plan (suc k) in
@@ -176,13 +173,58 @@ module _ (card plan : List ℕ) (y : Checked card plan) where
             rw (s.acts, s.sides) (record {
               words = f.words;
               few = omega (arith, f.few);
-              in_room = omega (arith, writing-length (suc k) at room m, m.total, m.within);
+              in_room = omega (arith, writing_length (suc k) at room m, m.total, m.within);
               gives = can-give (action_of (rule_in card plan k)) at ts (length xs) count f.waits t (omega arith) m.total;
             })
 
+        turns : Writing card plan before count k
+            (met (action_from action) (stretch_from side) at) (room_met (action_from action) (stretch_from side) at room)
+        turns =
+            let f = step_back k h in
+            let z = room_for in
+            rw (f.takes, f.pairs, ← s.acts, ← s.sides) (matches-met (stretch_from side) (action_from action) _ _ z.gives z.few m)
+
+-- These facts have one proof at most, so it is enough that there is a line for which the plan passes.
+HasWords-prop : (s : Stretch) → IsProp (HasWords s)
+HasWords-prop (stretch from to) = hlevel props
+
+CanGive-prop : (a : Action) (at : Matching) → IsProp (CanGive a at)
+CanGive-prop (Take γ) at = hlevel props
+CanGive-prop Keep at = hlevel props
+CanGive-prop (Give γ) at = hlevel props
+
+ruleset own = (HasWords-prop, CanGive-prop, props)
+
+module _ (card plan : List ℕ) (y : ∥ Checked card plan ∥₁) where
+  by-line : {G : Type 0} → IsProp G → (Passed card plan → G) → G
+  by-line one f = ∥∥₁_elim y one (λ c. f (passed card c.0 plan c.1))
+
+  pub step-there : (k : ℕ) → 4 * k + 4 ≤ length plan → byte_at plan (4 * k) < production_count card
+  step-there k h = by-line (hlevel own) (λ x. step_of_card card plan x k h)
+
+  pub gives-here : (k : ℕ) → 4 * k + 4 ≤ length plan → (n : ℕ) → n ≡ suc k
+      → length (pairs_from card plan k) ≡ one_give (action_of (rule_in card plan k)) + length (pairs_from card plan n)
+  gives-here k h n e = by-line (hlevel own) (λ x. gives_back card plan x k h n e)
+
+  pub all-pairs : length (pairs_from card plan 0) ≡ length (plan_pairs card (steps_of plan))
+  all-pairs = by-line (hlevel own) (λ x. ap length (pairs_all card plan x))
+
+  pub no-pairs : (k : ℕ) → length plan / 4 ≤ k → length (pairs_from card plan k) ≡ 0
+  no-pairs k h = by-line (hlevel own) (λ x. pairs_over card plan x k h)
+
+  module _ (before : List ℕ) (count : ℕ) where
+    pub writing_start : 2 * count ≤ length before → Writing card plan before count (length plan / 4) (started count) before
+    writing_start h = by-line (hlevel own) (λ x. starts card plan x before count h)
+
+    module _ (c : count ≡ length (plan_pairs card (steps_of plan))) where
+      pub writing-end : (at : Matching) (room : List ℕ) → Writing card plan before count 0 at room → room ≡ pairs_after (plan_pairs card (steps_of plan)) before
+      writing-end at room m = by-line (hlevel own) (λ x. ends card plan x before count c at room m)
+
+      module _ (k n : ℕ) (next : n ≡ suc k) (h : 4 * k + 4 ≤ length plan) (at : Matching) (room : List ℕ)
+          (w : Writing card plan before count n at room) {action : read.Action} {side : code.Stretch} (s : StepIn card plan k action side) where
+        pub writing-room : CanMatch (action_from action) (stretch_from side) room at
+        writing-room = by-line (hlevel own) (λ x. room_for card plan x before count c k n next h at room w s)
+
         pub writing-turn : Writing card plan before count k
             (met (action_from action) (stretch_from side) at) (room_met (action_from action) (stretch_from side) at room)
-        writing-turn =
-            let f = step_back k h in
-            let z = writing-room in
-            rw (f.takes, f.pairs, ← s.acts, ← s.sides) (matches-met (stretch_from side) (action_from action) _ _ z.gives z.few m)
+        writing-turn = by-line (hlevel own) (λ x. turns card plan x before count c k n next h at room w s)

@@ -7,7 +7,6 @@ use Rattle.grammar.specs.Pairs.{Stretch, stretch, side_of, place_in, Pair}
 use Rattle.layout.specs.Bytes.{byte_at}
 use Rattle.layout.specs.Card.{production}
 use Rattle.layout.specs.Steps.{pairs_bytes}
-use Rattle.layout.specs.Answers.{check_number}
 use Rattle.card.specs.declared.Action as read
 use Rattle.card.specs.Productions.{action_from}
 use Rattle.goals.specs.Shown.{tops, entries, action_of}
@@ -21,10 +20,6 @@ stretch_from s = stretch s.from s.to
 -- A stretch that is not empty.
 abbrev pub HasWords : Stretch → Type 0
 HasWords (stretch from to) = from < to
-
--- The plan passes Check for some line.
-abbrev pub Checked : List ℕ → List ℕ → Type 0
-Checked card plan = (line : List ℕ) × (check_number card line plan ≡ 0)
 
 -- Step k of a plan's bytes, and its rule.
 abbrev pub step_of : List ℕ → ℕ → PlanStep

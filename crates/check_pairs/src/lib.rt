@@ -2,19 +2,20 @@
 #![tactic(auto)]
 
 mod matching;
+pub mod plan;
 
 ghost use Rattle.std.specs.Prelude.{◌≡◌};
 ghost use Rattle.layout.specs.Answers.{check_number};
-ghost use Rattle.refusals.specs.Number.{number_in};
-ghost use Rattle.check_pairs.specs.Matching.{Checked};
-ghost use Rattle.check_pairs.specs.Paired.{PairsOf, Pairs};
+ghost use Rattle.refusals.specs.Number.{number_told};
+ghost use Rattle.check_pairs.specs.Paired.{Pairs};
 
 use card::Card;
+use plan::Passed;
 use refusals::Refusal;
 
 // Check under an accepted card: the line's refusals, then 34.
 pub fn check_line(card: Card, line: &[u8], plan: &[u8]) -> Result<(), Refusal>
-    ensures { number_in result ≡ check_number card.entry.bytes.now line.now plan.now }
+    ensures { number_told result ≡ check_number card.entry.bytes.now line.now plan.now }
 {
     let words = line::accept_line(card, line)?;
     if !goals::replay::replay(card, &words, plan) {
@@ -25,23 +26,9 @@ pub fn check_line(card: Card, line: &[u8], plan: &[u8]) -> Result<(), Refusal>
 
 // Is the plan, all of it, a leftmost derivation of the line under the card? The refusals of card and line come first, then 34.
 pub fn check(card: &[u8], line: &[u8], plan: &[u8]) -> Result<(), Refusal>
-    ensures { number_in result ≡ check_number card.now line.now plan.now }
+    ensures { number_told result ≡ check_number card.now line.now plan.now }
 {
     check_line(Card::check(card)?, line, plan)
-}
-
-// The pairs of a plan that passes Check, and how many they are: each give's place and its take's, two bytes a pair, in plan order. Whether
-// the room is enough is known before the first byte is written.
-pub fn pairs_of(card: Card, plan: &[u8], room: &mut [u8]) -> Result<usize, Refusal>
-    requires { Checked card.bytes.now plan.now }
-    ensures { PairsOf card.entry.bytes.now plan.now room.old room.new result }
-{
-    let count = matching::gives(card, plan);
-    if room.len() < 2 * count {
-        return Err(Refusal::OutputRoom);
-    }
-    matching::write_pairs(card, plan, count, room);
-    Ok(count)
 }
 
 // Check's refusals, and then the pairs.
@@ -50,5 +37,9 @@ pub fn pairs(card: &[u8], line: &[u8], plan: &[u8], room: &mut [u8]) -> Result<u
 {
     let accepted = Card::check(card)?;
     check_line(accepted, line, plan)?;
-    pairs_of(accepted, plan, room)
+    let passed = Passed {
+        card: accepted,
+        plan,
+    };
+    passed.pairs_of(room)
 }

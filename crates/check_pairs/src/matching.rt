@@ -1,33 +1,31 @@
-// The pairs of a plan that passes: each give with the take that removes its index (document 01, "Check, pairs, name"), and of both the last
-// word of the side (document 02, Paper 6).
-ghost use Rattle.std.specs.Prelude.{◌≡◌, ◌+◌, ◌*◌, ◌≤◌, length};
+// What the pairs of a plan are made of: each give with the take that removes its index (document 01, "Check, pairs, name"), and of both the
+// last word of the side (document 02, Paper 6).
+ghost use Rattle.std.specs.Prelude.{◌≡◌, ◌≤◌};
 ghost use Rattle.grammar.specs.Pairs.{stretch, side_of, place_in};
 ghost use Rattle.grammar.specs.Matching.{one_give};
-ghost use Rattle.layout.specs.Steps.{steps_of};
-ghost use Rattle.layout.specs.Answers.{plan_pairs, pairs_after};
 ghost use Rattle.card.specs.Productions.{action_from, rule_from};
 ghost use Rattle.goals.specs.Shown.{action_of, step_from};
-ghost use Rattle.check_pairs.specs.Matching.{stretch_from, HasWords, Checked, StepIn, started, CanMatch, met, room_met};
+ghost use Rattle.check_pairs.specs.Matching.{stretch_from, HasWords, started, CanMatch, met, room_met};
 
-use card::{Action, Card, Production};
-use goals::replay::{ENTRIES, StepBytes, step_at};
+use card::{Action, Production};
+use goals::replay::{ENTRIES, StepBytes};
 
 // A stretch of the line: the words from place `from` up to place `to`.
 #[derive(Clone, Copy)]
-struct Stretch {
-    from: u8,
-    to: u8,
+pub struct Stretch {
+    pub from: u8,
+    pub to: u8,
 }
 
 impl Stretch {
-    fn between(from: u8, to: u8) -> Self
+    pub fn between(from: u8, to: u8) -> Self
         ensures { stretch_from result ≡ stretch from to }
     {
         Stretch { from, to }
     }
 
     // What a pair says of a side: its last word. A side of a plan that passes has one.
-    fn last_word(self) -> u8
+    pub fn last_word(self) -> u8
         requires { HasWords (stretch_from self) }
         ensures { result ≡ place_in (stretch_from self) }
     {
@@ -36,7 +34,7 @@ impl Stretch {
 }
 
 // A word leaves the stack as it is.
-fn action_of(production: Production) -> Action
+pub fn action_of(production: Production) -> Action
     ensures { action_from result ≡ action_of (rule_from production) }
 {
     match production {
@@ -46,7 +44,7 @@ fn action_of(production: Production) -> Action
 }
 
 // The side of a step: what lies before the split where the side stands first, and after it where it stands last.
-fn side_of(production: Production, step: StepBytes) -> Stretch
+pub fn side_of(production: Production, step: StepBytes) -> Stretch
     ensures { stretch_from result ≡ side_of (rule_from production) (step_from step) }
 {
     match production {
@@ -56,7 +54,7 @@ fn side_of(production: Production, step: StepBytes) -> Stretch
     }
 }
 
-fn one_give(action: Action) -> usize
+pub fn one_give(action: Action) -> usize
     ensures { (result ≡ one_give (action_from action)) × (result ≤ 1) }
 {
     match action {
@@ -65,27 +63,17 @@ fn one_give(action: Action) -> usize
     }
 }
 
-// What step k of a plan does with the stack, and its side. A step has four bytes.
-fn step_in(card: Card, plan: &[u8], k: usize) -> (Action, Stretch)
-    requires checked { Checked card.bytes.now plan.now }
-    requires there { 4 * k + 4 ≤ length plan.now }
-    ensures { StepIn card.entry.bytes.now plan.now k result.0 result.1 }
-{
-    let step = step_at(plan, 4 * k);
-    let production = card.production(usize::from(step.number));
-    (action_of(production), side_of(production, step))
-}
-
-// The places of the takes that wait for their give, how many they are, and how many pairs are still to be written.
+// The places of the takes that wait for their give, how many they are, and how many pairs are still to be written. An array, since there is no
+// heap.
 #[derive(Drop)]
-struct Matching {
+pub struct Matching {
     takes: [u8; ENTRIES],
     waiting: usize,
     unwritten: usize,
 }
 
 impl Matching {
-    fn start(count: usize) -> Self
+    pub fn start(count: usize) -> Self
         ensures { result ≡ started count }
     {
         Matching {
@@ -96,7 +84,7 @@ impl Matching {
     }
 
     // A take's place waits; a give writes its pair, with the place that came last.
-    fn meet(&mut self, action: Action, side: Stretch, room: &mut [u8])
+    pub fn meet(&mut self, action: Action, side: Stretch, room: &mut [u8])
         requires { CanMatch (action_from action) (stretch_from side) room.old self.old }
         ensures { (self.new ≡ met (action_from action) (stretch_from side) self.old)
             × (room.new ≡ room_met (action_from action) (stretch_from side) self.old room.old) }
@@ -116,32 +104,5 @@ impl Matching {
                 room[pair + 1] = self.takes[self.waiting];
             }
         }
-    }
-}
-
-// How many pairs the plan has: its give steps.
-pub fn gives(card: Card, plan: &[u8]) -> usize
-    requires { Checked card.bytes.now plan.now }
-    ensures { (result ≡ length (plan_pairs card.entry.bytes.now (steps_of plan.now))) × (result ≤ length plan.now) }
-{
-    let mut count = 0;
-    // No chain: that there is a step k is known of the range, and not inside a closure.
-    for k in 0..plan.len() >> 2 {
-        let (action, _) = step_in(card, plan, k);
-        count += one_give(action);
-    }
-    count
-}
-
-// Writes the pairs, from the last to the first, in one pass back over the plan. Not by `chunks_exact`, here and above: it divides.
-pub fn write_pairs(card: Card, plan: &[u8], count: usize, room: &mut [u8])
-    requires checked { Checked card.bytes.now plan.now }
-    requires counted { (count ≡ length (plan_pairs card.bytes.now (steps_of plan.now))) × (2 * count ≤ length room.old) }
-    ensures { room.new ≡ pairs_after (plan_pairs card.entry.bytes.now (steps_of plan.now)) room.old }
-{
-    let mut matching = Matching::start(count);
-    for k in (0..plan.len() >> 2).rev() {
-        let (action, side) = step_in(card, plan, k);
-        matching.meet(action, side, room);
     }
 }

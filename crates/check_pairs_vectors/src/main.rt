@@ -47,44 +47,39 @@ impl<'a> Case<'a> {
         self.number(&bytes[..length]) == 0
     }
 
-    // Each byte one more, 0 and 255: how many of these plans pass. (The sums wrap, so that nothing has to be known of how many there are.)
-    fn three_changes(&self, rt: &impl Print) -> io::Result<()> {
-        let mut sum: u64 = 0;
+    // How many plans pass that have one byte set to a value that is tried at it, as a test of byte and value says. (The sum wraps, so that
+    // nothing has to be known of how many bytes there are.)
+    fn passing<F: Fn(u8, u8) -> bool>(&self, is_tried: F) -> usize
+        requires { F.IsAlwaysCallable is_tried }
+    {
+        let mut sum = 0usize;
         for (at, byte) in self.plan.iter().enumerate() {
-            for value in [byte.wrapping_add(1), 0, 255] {
-                sum = sum.wrapping_add(u64::from(self.passes(at, value)));
-            }
+            let values = (0..=255u8).filter(|value| is_tried(*byte, *value));
+            sum = sum.wrapping_add(values.filter(|value| self.passes(at, *value)).count());
         }
+        sum
+    }
+
+    // Each byte one more, 0 and 255: how many of these plans pass.
+    fn three_changes(&self, rt: &impl Print) -> io::Result<()> {
+        let sum = self.passing(|byte, value| {
+            value == byte.wrapping_add(1) || value == 0 || value == 255
+        });
         println!(rt; "one more, 0 or 255: {sum}")
     }
 
     // Each byte at every value: how many of these plans pass.
     fn all_values(&self, rt: &impl Print) -> io::Result<()> {
-        let mut sum: u64 = 0;
-        for at in 0..self.plan.len() {
-            for value in 0..=255u8 {
-                sum = sum.wrapping_add(u64::from(self.passes(at, value)));
-            }
-        }
+        let sum = self.passing(|_, _| true);
         println!(rt; "any value: {sum}")
     }
 
     // The numbers of the first 0 to 200 bytes of the plan with zeros after it, as runs of lengths.
     fn lengths(&self, rt: &impl Print) -> io::Result<()> {
         let bytes = filled(self.plan);
-        let mut first = 0;
-        let mut same = self.number(b"");
         print!(rt; "lengths")?;
-        for last in 0..200usize {
-            let length = last + 1;
-            let found = self.number(&bytes[..length]);
-            if found != same {
-                print!(rt; " {first}-{last}:{same}")?;
-                first = length;
-                same = found;
-            }
-        }
-        println!(rt; " {first}-200:{same}")
+        samples::print_runs(rt, 200, |length| self.number(&bytes[..usize::from(length)]))?;
+        println!(rt;)
     }
 
     // Pairs in the first bytes of a room that is filled with 170: the number and the count, and then all of the room.
@@ -133,11 +128,11 @@ impl<'a> Case<'a> {
 // Refused each for one thing.
 fn refusals(rt: &impl Print) -> io::Result<()> {
     let case = Case {
-        card: &vectors::TOMATO,
+        card: &samples::TOMATO,
         line: b"coir takes mild",
         plan: &vectors::PLAN_ONE,
     };
-    let mut mark = vectors::TOMATO;
+    let mut mark = samples::TOMATO;
     mark[0] = b'l';
     case.with_card(&mark).refused(rt, "another mark")?;
     case.with_card(b"").refused(rt, "no card")?;
@@ -167,7 +162,7 @@ fn refusals(rt: &impl Print) -> io::Result<()> {
 // Document 01's lines.
 fn tomato(rt: &impl Print) -> io::Result<()> {
     let one = Case {
-        card: &vectors::TOMATO,
+        card: &samples::TOMATO,
         line: b"coir takes mild",
         plan: &vectors::PLAN_ONE,
     };
@@ -214,7 +209,7 @@ fn rows(rt: &impl Print) -> io::Result<()> {
 // The second word spelled as the first, and made by the same nonterminal: the word step for "coir" may name either production. The
 // nonterminal that made it goes from the right sides too, where it would be a dead name.
 fn alike(rt: &impl Print) -> io::Result<()> {
-    let mut card = vectors::TOMATO;
+    let mut card = samples::TOMATO;
     card[25] = b'c';
     card[27] = b'i';
     card[28] = b'r';

@@ -1,13 +1,6 @@
-// Cards, lines and plans. The plans for the tomato card's lines are document 01's; the next card has one production of each kind but
-// three words, and its line of 24 words a plan that uses every one; on the last a row may have a number and a feed may be extra.
-
-// Header; words; productions that are a word, that give and that take.
-pub const TOMATO: [u8; 138] = *b"LIG1\x06\x05\x02\x0b\x0c\0\x48\0\
-    \x04coir\0\0\0\0\0\0\0\x04wool\0\0\0\0\0\0\0\x05takes\0\0\0\0\0\0\
-    \x04mild\0\0\0\0\0\0\0\x04rich\0\0\0\0\0\0\0\
-    \0\x02\0\0\0\0\0\x03\x01\0\0\0\0\x01\x02\0\0\0\0\x04\x03\0\0\0\
-    \0\x05\x04\0\0\0\x05\0\x02\0\x01\0\x05\0\x03\0\x02\0\x05\0\x02\x01\x01\0\
-    \x05\0\x03\x01\x02\0\x02\x01\x01\x04\x01\0\x02\x01\x01\x05\x02\0";
+// Plans, and two cards with their lines. The plans for the tomato card's lines are document 01's; the first card here has one production of
+// each kind but three words, and its line of 24 words a plan that uses every one; on the other a row may have a number and a feed may be
+// extra.
 
 // "coir takes mild".
 pub const PLAN_ONE: [u8; 20] =

@@ -21,7 +21,7 @@ pub struct StepBytes {
     pub end: u8,
 }
 
-// The goal on top: its nonterminal, how deep its stack is, the index on top of that, and its stretch.
+// The goal on top: its nonterminal, how deep its stack is, the index on top of that, 0 where there is none, as in document 01, and its stretch.
 #[derive(Clone, Copy)]
 struct Top {
     name: u8,
@@ -44,7 +44,8 @@ struct Goal {
 }
 
 // The goals, the first one last, and the indices of all their stacks: how many there are of each, and the place up to which all words are
-// reached. That they are few follows from how goals tile the line, which no method keeps by itself: so it stands in contracts.
+// reached. Arrays, since there is no heap; the indices are one stack, of which each goal has a part from its base on, so no type of a stack serves.
+// That they are few follows from how goals tile the line, which no method keeps by itself: so it stands in contracts.
 #[derive(Drop)]
 struct Goals {
     goals: [Goal; ENTRIES],
@@ -257,6 +258,7 @@ pub fn replay(card: Card, words: &Words, plan: &[u8]) -> bool
     if plan.len() & 3 != 0 {
         return false;
     }
+    // By `as`: a line has 24 words at most, and `try_from` would test that once more.
     let mut goals = Goals::start(words.count as u8);
     // No `chunks_exact` or `as_chunks`: they divide, and the archive has no division.
     for k in 0..plan.len() >> 2 {

@@ -12,7 +12,7 @@ use Rattle.grammar.specs.Lists.{here, there}
 use Rattle.layout.specs.Bytes.{number16_at, all_bytes}
 use Rattle.layout.specs.Refusals.{unless, first_refusal}
 use Rattle.layout.specs.Card.{nonterminal_count, word_count, index_count, production_count, word_table, production_table, card_length}
-use Rattle.layout.specs.Card.{header_length, most_card_bytes, entry_at, entry_length, production_at, production_length}
+use Rattle.layout.specs.Card.{header_length, most_card_bytes, entry_at, entry_length}
 use Rattle.layout.specs.Card.{max_nonterminals, max_words, max_indices, max_productions, within, card_refusals, card_number}
 use Rattle.layout.specs.Card.{mark_fits, counts_fit, lengths_fit, entries_fit, productions_fit, names_live}
 use Rattle.layout.specs.Line.{words_of, is_line_byte, all_known, line_refusals, line_number, most_words}
@@ -92,10 +92,6 @@ accepted-most card z =
 -- Its entries and productions lie within it.
 pub entry-inside : (card : List ℕ) (v : ℕ) → card_number card ≡ 0 → v < word_count card → entry_at card v + entry_length ≤ length card
 entry-inside card v z h = omega (arith, accepted-length card z)
-
-pub production-inside : (card : List ℕ) (m : ℕ) → card_number card ≡ 0 → m < production_count card
-    → production_at card m + production_length ≤ length card
-production-inside card m z h = omega (arith, accepted-length card z)
 
 -- A card and a line: the card's number where it is refused, and else the line's.
 pub input-of-card : (card line : List ℕ) → (card_number card ≡ 0 → ⊥) → input_number card line ≡ card_number card

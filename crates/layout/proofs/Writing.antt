@@ -2,36 +2,14 @@
 -- stretch in it, and past its own end it finds what was there at first.
 use Prim.Native.Nat.{ℕ, ◌+◌, ◌≤◌}
 use native.Mathlib.Omega.{arith}
-use native.Mathlib.Numerals.{add-one, add-two, add-three}
-use mathlib.Core.Path.{◌≡◌, refl, sym, ◌∙◌}
-use mathlib.Core.List.{List, [], ◌∷◌, ◌++◌, append_assoc}
-use lib.ListN.{length, take, drop, set, length-append, length-drop, take-append-drop}
-use lib.Seq.{length-take-le, take_at, drop_at, drop-drop, sets-eq}
+use mathlib.Core.Path.{◌≡◌, sym, ◌∙◌}
+use mathlib.Core.List.{List, [], ◌++◌, append_assoc}
+use lib.ListN.{length, take, drop, length-append, length-drop, take-append-drop}
+use lib.Seq.{length-take-le, take_at, drop_at, drop-drop}
 use Rattle.layout.specs.Written.{Wrote}
 
 pub wrote_none : (old : List ℕ) (here : ℕ) → here ≤ length old → Wrote old here [] old here
 wrote_none old here h = record { ends = omega arith; fits = h; written = sym (take-append-drop here old) }
-
--- Three stores, and four.
-pub wrote-three : (old : List ℕ) (here a b c : ℕ) → here + 3 ≤ length old
-    → Wrote old here (a ∷ b ∷ c ∷ []) (set (set (set old here a) (here + 1) b) (here + 2) c) (here + 3)
-wrote-three old here a b c h =
-    record {
-      ends = refl;
-      fits = h;
-      written = rw (add-one, add-two)
-          (sets-eq (a ∷ b ∷ c ∷ []) old here h ∙ append_assoc (take here old) (a ∷ b ∷ c ∷ []) (drop (here + 3) old));
-    }
-
-pub wrote-four : (old : List ℕ) (here a b c d : ℕ) → here + 4 ≤ length old
-    → Wrote old here (a ∷ b ∷ c ∷ d ∷ []) (set (set (set (set old here a) (here + 1) b) (here + 2) c) (here + 3) d) (here + 4)
-wrote-four old here a b c d h =
-    record {
-      ends = refl;
-      fits = h;
-      written = rw (add-one, add-two, add-three)
-          (sets-eq (a ∷ b ∷ c ∷ d ∷ []) old here h ∙ append_assoc (take here old) (a ∷ b ∷ c ∷ d ∷ []) (drop (here + 4) old));
-    }
 
 module _ {old bytes mid : List ℕ} {here next : ℕ} (w : Wrote old here bytes mid next) where
   here-inside : here ≤ length old

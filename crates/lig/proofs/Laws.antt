@@ -24,7 +24,7 @@ use Rattle.check_pairs.specs.Paired.{Pairs}
 use Rattle.sheet.specs.Sheet.{pack_sheet}
 use Rattle.sheet.specs.Promise.{Sheet}
 use Rattle.sheet.proofs.Fits.{sheet-fits}
-use Rattle.lig.specs.Exports.{number_in, ReadPacked, PairsPacked, line_in, records_in, SheetPacked}
+use Rattle.lig.specs.Exports.{number_in, ReadPacked, line_in, records_in, SheetPacked}
 
 pub number-packed : (a b c d : ℕ) → a < 65536 → number_in (pack a b c d) ≡ a
 number-packed a b c d h = omega arith
@@ -49,17 +49,10 @@ module _ (card line old_chart old_plan new_chart new_plan : List ℕ) (a : Resul
       }
 
 module _ (card line plan before after : List ℕ) (a : Result ℕ Refusal) (paired : Pairs card line plan before after a) where
-  pub pairs-fit-code : (answers.number_in a ≤ most_number) × (count_in a ≤ 47)
+  pub pairs-fit-code : (answers.number_told a ≤ most_number) × (count_in a ≤ 47)
   pairs-fit-code =
       let h = pairs-fit card line plan (length before) in
       (subst (λ (x : ℕ). x ≤ most_number) (sym paired.number) h.number, subst (λ (x : ℕ). x ≤ 47) (sym paired.count) h.count)
-
-  pub pairs-packed : PairsPacked card line plan before after (pack (answers.number_in a) (count_in a) 0 0)
-  pairs-packed = record { answer = rw (paired.number, paired.count) refl; room = paired.room }
-
--- Of a refusal only the number is left.
-pub number-alone : (number : ℕ) → number ≡ pack number 0 0 0
-number-alone number = omega arith
 
 -- The place and the size of a name, which lies within a word's entry.
 abbrev found : ℕ → ℕ → NameAnswer

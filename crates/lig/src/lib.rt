@@ -16,6 +16,7 @@ fn pack(a: u64, b: usize, c: usize, d: usize) -> u64
     requires { (a < 65536) × (b < 65536) × (c < 65536) × (d < 65536) }
     ensures { result ≡ answers.pack a b c d }
 {
+    // By `as`, here and below: there is no `From<usize> for u64`.
     let low = a + (b as u64) * 65536;
     let high = (c as u64) + (d as u64) * 65536;
     low + high * 4294967296
@@ -27,6 +28,7 @@ fn pack_sheet(number: u64, line: u8, records: usize) -> u64
     ensures { result ≡ pack_sheet number line records }
 {
     let low = number + u64::from(line) * 65536;
+    // By `as` for the same reason.
     low + (records as u64) * 16777216
 }
 
@@ -46,6 +48,7 @@ pub extern "C" fn lig_read(card: &[u8], line: &[u8], chart: &mut [u8], plan: &mu
         Ok(reading) => reading,
         Err(refusal) => return u64::from(refusal),
     };
+    // No reading is 25 here, in a sheet and in `lines`: a number with counts, a refusal, a text, and so in three words each time.
     match reading.steps {
         Some(steps) => pack(0, reading.words, reading.items, steps),
         None => pack(

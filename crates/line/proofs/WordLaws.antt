@@ -1,23 +1,23 @@
 -- The words of a line, read from a place on: what stands from the place to the line's end gives the words that are left, and tells
 -- whether the bytes that are left fit. A space in front changes neither; a run of letters, up to a space or the end, is the first word.
-use Prim.Native.Nat.{ℕ, suc, ◌+◌, ◌≤◌, ◌<◌}
+use Prim.Native.Nat.{ℕ, suc, ◌+◌, ◌-◌, ◌≤◌, ◌<◌}
 use native.Mathlib.Decide.{ℕ_discrete}
 use native.Mathlib.Omega.{arith}
 use mathlib.Core.Path.{◌≡◌, refl, sym, ◌∙◌, ap}
 use mathlib.Core.Bool.{Bool, true, false, cond}
 use mathlib.Core.List.{List, [], ◌∷◌, ◌++◌, append_assoc, append-nil}
 use lib.Dec.{eqb}
-use lib.ListN.{length, take, drop, length-drop, drop_of_length-le}
-use lib.Seq.{drop-cons, drop-drop, get_or-drop}
+use lib.ListN.{length, drop, drop_of_length-le}
+use lib.Seq.{drop-cons, drop-drop}
 use borrow.Author.Tests.{eq-eqb, ne_eqb, eqb-true, eqb-false}
 use Rattle.std.specs.List.{prefix_len}
-use Rattle.std.proofs.lemmas.List.Folds.{length-prefix_len}
-use Rattle.std.proofs.lemmas.List.Sums.{prefix_len-le-length, prefix_len_stops}
 use Rattle.layout.specs.Bytes.{byte_at, is_letter, all_bytes}
 use Rattle.layout.specs.Line.{space, is_line_byte, ended, words_from, words_of}
 use Rattle.layout.specs.Answers.{words_in}
 use Rattle.octets.specs.Letters.{part, Letters}
+use Rattle.octets.specs.Past.{Past}
 use Rattle.octets.proofs.LetterLaws.{part_length, part-rest}
+use Rattle.octets.proofs.PastLaws.{past-run}
 use Rattle.line.specs.Words.{WordStarts, PastLetters}
 use Rattle.layout.proofs.TestLaws.{both}
 use Rattle.line.proofs.LetterLaws.{letter-no-space, letter-fits, neither-fits}
@@ -69,21 +69,20 @@ skipped (b ∷ bytes) = go (is_space b) refl (prefix_len is_space bytes) (skippe
     go false e n h = (refl, refl)
 
 -- A word starts past as many spaces as the rest of the line begins with, or the line ends.
-pub starts-past : (line : List ℕ) (at : ℕ) {n : ℕ} → at ≤ length line
-    → n ≡ length (take (prefix_len is_space (drop at line)) (drop at line)) → WordStarts line at (at + n)
-starts-past line at {n} h e =
+pub starts-past : {fits : ℕ → Bool → Type 0} {line : List ℕ} {at start : ℕ} → ((b : ℕ) (r : Bool) → fits b r → r ≡ is_space b)
+    → Past fits line at start → WordStarts line at start
+starts-past {fits} {line} {at} {start} tells p =
     let rest = drop at line in
-    let run = prefix_len is_space rest in
-    let same : n ≡ run = e ∙ length-prefix_len is_space rest in
-    let left : drop run rest ≡ drop (at + n) line = rw same (drop-drop run at line) in
+    let run : start - at ≡ prefix_len is_space rest = past-run is_space tells p in
+    let there : at + (start - at) ≡ start = omega (arith, p.after) in
+    let left : drop (prefix_len is_space rest) rest ≡ drop start line =
+    rw (← run) (drop-drop (start - at) at line ∙ ap (λ (k : ℕ). drop k line) there) in
     record {
-      after = omega arith;
-      within = omega (arith, same, prefix_len-le-length is_space rest, length-drop at line);
+      after = p.after;
+      within = p.within;
       words = (skipped rest).0 ∙ ap words_of left;
       fits = (skipped rest).1 ∙ ap (all_bytes is_line_byte) left;
-      letter = λ g s. eqb-false (byte_at rest run) space
-          (prefix_len_stops is_space rest 0 (omega (arith, same, g, length-drop at line)))
-          (get_or-drop at line run 0 ∙ ap (λ (k : ℕ). byte_at line (at + k)) (sym same) ∙ s);
+      letter = λ h s. eqb-false (byte_at line start) space (sym (tells (byte_at line start) false (p.stops h))) s;
     }
 
 -- The bytes from `start` to `stop` are the first of the words from `start` on, and letters.

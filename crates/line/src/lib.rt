@@ -23,25 +23,20 @@ pub fn accept_line(card: Card, line: &[u8]) -> Result<Words, Refusal>
     slots::range_all(card, &mut slots);
     let mut places = [0u32; MOST_WORDS];
     let mut count = 0;
-    let mut known = true;
     let mut at = cut::word_start(line, 0);
-    // A cursor: a word's end and the next one's start are found byte by byte, so no range and no iterator says its steps.
+    // A cursor and no iterator of words: the byte that stops a word decides 22, so an iterator would have to hand it out beside each word.
     while at < line.len() {
         let end = cut::word_end(line, at);
         if end < line.len() && line[end] != cut::SPACE {
             return Err(Refusal::StrayByte);
         }
         if count < MOST_WORDS {
-            let set = lookup::look_up(card, &slots, &line[at..end]);
-            places[count] = set;
-            if set == 0 {
-                known = false;
-            }
+            places[count] = lookup::look_up(card, &slots, &line[at..end]);
         }
         count += 1;
         at = cut::word_start(line, end);
     }
-    verdict::verdict(count, known, places)
+    verdict::verdict(count, &places)
 }
 
 // The card's refusals, then the line's in their order, each over the whole line.

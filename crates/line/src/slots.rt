@@ -45,6 +45,7 @@ pub fn range_all(card: Card, slots: &mut [Slot; SLOTS])
         let entry = card.entry_at(v);
         let size = usize::from(card.bytes[entry]);
         let h = slot_of(card.bytes[entry + 1], card.bytes[entry + size]);
+        // A card has at most 32 words. There is no `From`, and `try_from` would test what is proved.
         slots[h] = slots[h].with(v as u8);
     }
 }

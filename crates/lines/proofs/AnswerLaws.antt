@@ -7,7 +7,7 @@ use mathlib.Core.Bool.{Bool}
 use mathlib.Core.List.{List, [], ◌∷◌, ◌++◌}
 use lib.ListN.{length, take, drop}
 use lib.Seq.{take_at}
-use borrow.Author.Tests.{eq-eqb, ne_eqb}
+use borrow.Author.Tests.{eq-eqb}
 use Rattle.std.specs.Prelude.{Some, Result, Ok, Err}
 use Rattle.std.specs.Result.{result_unwrap_or}
 use Rattle.grammar.specs.Lists.{concat_map}
@@ -25,7 +25,7 @@ use Rattle.refusals.specs.Number.{count_in}
 use Rattle.reader.specs.Read.{plan_number, steps_in, answer_from, read_number, Reads}
 use Rattle.reader.specs.declared.read.Reading.{Reading}
 use Rattle.reader.proofs.PlanRead.{planned, read-accepted, plan-taken, taken-length}
-use Rattle.lines_text.specs.Text.{step_line, step_lines, pair_line, pair_lines, read_line, refused_line, Appends}
+use Rattle.lines_text.specs.Text.{step_line, step_lines, pair_line, pair_lines, read_line, Appends}
 use Rattle.lines_text.proofs.Appending.{appends-then}
 use Rattle.lines.specs.Answer.{step_text, pair_text, line_answer, plan_text, TextIf, LineText, Answers}
 
@@ -86,11 +86,6 @@ module _ {card line plan before after : List ℕ} {r : Result ℕ Refusal} {coun
   pub pairs-length : 2 * count ≡ length (take (2 * count) after)
   pairs-length = omega (arith, count-is, pairs-bytes-length pairs, ap length pairs-taken)
 
-  pub plan-appends : {old mid new : List ℕ} {at m after' : ℕ} → Appends old at (step_lines plan) mid m
-      → Appends mid m (pair_lines (take (2 * count) after)) new after' → Appends old at (plan_text card line plan) new after'
-  plan-appends {mid = mid} {new} {m = m} {after'} a b =
-      appends-then a (subst (λ (l : List ℕ). Appends mid m (pair_lines l) new after') pairs-taken b)
-
 -- Read's answer with the program's rooms.
 module _ {card line old_chart old_plan new_chart new_plan : List ℕ} {r : Result Reading Refusal}
     (x : Reads card line old_chart old_plan new_chart new_plan r) (lc : length old_chart ≡ 64000) (lp : length old_plan ≡ 188) where
@@ -100,18 +95,6 @@ module _ {card line old_chart old_plan new_chart new_plan : List ℕ} {r : Resul
 
   number_is : read_number r ≡ (line_answer card line).number
   number_is = ap (λ (a : ReadAnswer). a.number) answer-is
-
-  -- A refusal.
-  pub refused-answer : {old new : List ℕ} {at after : ℕ} → (read_number r ≡ 0 → ⊥) → Appends old at (refused_line (read_number r)) new after
-      → Answers card line old at new after
-  refused-answer h a =
-      record {
-        text = refused_line (read_number r);
-        shows =
-            subst (λ (b : Bool). TextIf b card line (refused_line (read_number r)))
-            (sym (ne_eqb (line_answer card line).number 0 (λ z. h (number_is ∙ z)))) (ap refused_line number_is);
-        appends = a;
-      }
 
 -- A reading, whose plan has so many steps.
 module _ {card line old_chart old_plan new_chart new_plan : List ℕ} {r : Reading} {steps : ℕ}

@@ -6,10 +6,9 @@ use mathlib.Core.Bool.{Bool, true, false, cond}
 use mathlib.Core.List.{List, [], ◌∷◌, ◌++◌, append_assoc, append-nil}
 use lib.Dec.{eqb}
 use lib.ListN.{length, take}
-use lib.Seq.{length-take-le}
 use Rattle.split.specs.Lines.{newline, in_front, lines_of}
 use Rattle.lines_text.proofs.Appending.{appends-within}
-use Rattle.lines.specs.Answer.{LineText, Texts, none, more, Answers, AnswersAll}
+use Rattle.lines.specs.Answer.{LineText, Texts, none, more, Answers}
 use Rattle.lines.proofs.TextLength.{text-length}
 
 texts-one-more : {card : List ℕ} {lines : List (List ℕ)} {texts : List ℕ} (line text : List ℕ) → Texts card lines texts
@@ -67,12 +66,4 @@ module _ {card input old out : List ℕ} {size : ℕ} {left : List (List ℕ)} (
         within = appends-within a.appends s.within;
         short = omega (arith, s.short, a.appends.size, text-length card line a.text a.shows, ap bytes_of e);
         same_length = a.appends.same_length ∙ s.same_length;
-      }
-
-  pub at-end : left ≡ [] → AnswersAll card input out size
-  at-end e =
-      let all : s.lines ≡ lines_of input = sym (s.split ∙ ap (λ (l : List (List ℕ)). s.lines ++ l) e ∙ append-nil s.lines) in
-      record {
-        texts = subst (λ (lines : List (List ℕ)). Texts card lines (take size out)) all s.texts;
-        counts = (s.within, sym (length-take-le size out s.within));
       }

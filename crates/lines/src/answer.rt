@@ -5,14 +5,13 @@ ghost use Rattle.lines.specs.Answer.{plan_text, Answers, text_room, AnswersAll};
 
 use crate::input::MOST_INPUT;
 use lines_text::text;
+use reader::read::PLAN_ROOM;
 use refusals::Refusal;
 
 // Room for 4,000 items.
 const CHART_ROOM: usize = 64000;
 
-// Room for the steps of 24 words, and for as many pairs.
-const PLAN_ROOM: usize = 188;
-
+// Room for as many pairs as a plan has steps.
 const PAIR_ROOM: usize = 94;
 
 // More than the text of one line takes, even if each number in it had 20 digits.
@@ -50,6 +49,7 @@ fn put_answer(card: &[u8], line: &[u8], out: &mut [u8], at: usize) -> usize
     let Some(steps) = reading.steps else {
         return text::put_refused(out, at, u64::from(Refusal::NoReading));
     };
+    // By `as`: there is no `From<usize> for u64`.
     let after = text::put_read(out, at, reading.words as u64, reading.items as u64);
     put_plan(card, line, &plan[..4 * steps], out, after)
 }

@@ -6,6 +6,7 @@ use std::io::Write;
 
 // Writes all of the text, or stops at the first write that takes nothing or fails: how many bytes the writer took. They are the first ones of
 // the text, in order. (`write_all` does not say how much was written before a write that failed.)
+// Why this is no one loop with `read_full`: see there.
 pub fn write_full<W: Write>(to: &mut W, text: &[u8]) -> usize
     ensures counts { result ≤ length text.now }
     ensures bytes { Appends (W.contents to.old) (W.contents to.new) (take result text.now) }

@@ -57,7 +57,8 @@ fn put_step(out: &mut [u8], at: usize, production: u8, i: u8, k: u8, j: u8) -> u
     put_field(out, after, u64::from(j), b'\n')
 }
 
-// A line for each step of a plan, four bytes each.
+// A line for each step of a plan, four bytes each. One function for this and `put_pairs` would be no plainer: they share the line with the
+// `for` alone, and chunk, text and the room that the contract counts would be a closure with a contract of its own.
 pub fn put_steps(out: &mut [u8], at: usize, plan: &[u8]) -> usize
     requires { at + 21 * length plan.now ≤ length out.old }
     ensures { Appends out.old at (step_lines plan.now) out.new result }

@@ -1,1 +1,2 @@
 pub mod LetterLaws
+pub mod PastLaws

@@ -3,6 +3,7 @@
 
 ghost use Rattle.std.specs.Prelude.{◌≡◌, ◌<◌, ◌≤◌, ◌+◌, eqb, length};
 ghost use Rattle.layout.specs.Bytes.{byte_at, number16_at, is_letter, same_bytes, all_bytes};
+ghost use Rattle.octets.specs.Past.{Past};
 ghost use Rattle.octets.specs.Letters.{Letters};
 
 // The byte at a place, 0 past the end.
@@ -27,15 +28,26 @@ pub fn is_letter(b: u8) -> bool
     matches!(b, b'a'..=b'z' | b'0'..=b'9')
 }
 
-// Past the letters a to z that stand at `at`. Most words are one such run.
+// Past the bytes that fit, from `at` on. The loop is over places, since one is the answer.
+pub fn past<F: Fn(u8) -> bool>(s: &[u8], at: usize, fits: F) -> usize
+    requires { (at ≤ length s.now) × F.IsAlwaysCallable fits }
+    ensures { Past (F.post fits) s.now at result }
+{
+    for k in at..s.len() {
+        if !fits(s[k]) {
+            return k;
+        }
+    }
+    s.len()
+}
+
+// Past the letters a to z that stand at `at`. Most words are one such run, and this is one test for a byte where `is_letter` is two: a
+// line and a card's spellings are gone over by it first.
 pub fn past_small(s: &[u8], at: usize) -> usize
     requires { at ≤ length s.now }
     ensures { Letters s.now at result }
 {
-    at + s[at..]
-        .iter()
-        .take_while(|b| b.is_ascii_lowercase())
-        .count()
+    past(s, at, |b| b.is_ascii_lowercase())
 }
 
 // Most words are letters a to z alone, which is one test for a byte. Here and below a `for`: the library's `all` and its `==` of slices go

@@ -3,6 +3,8 @@
 #![tactic(auto)]
 
 ghost use Rattle.std.specs.Prelude.{◌<◌, ◌≤◌};
+ghost use Rattle.grammar.specs.Input.{Holds, Below};
+ghost use Rattle.places.specs.Places.{word_test};
 
 // The most words that a line may have.
 pub const MOST_WORDS: usize = 24;
@@ -14,4 +16,5 @@ pub struct Words {
     pub places: [u32; MOST_WORDS],
     pub ghost some: { 0 < count },
     pub ghost few: { count ≤ 24 },
+    pub ghost ends: { Below (Holds (word_test places)) count },
 }

@@ -2,7 +2,7 @@
 -- What the number says of derivations follows from the answer alone, so only the answer and the rooms differ.
 use Prim.Native.Nat.{ℕ, ◌≤◌, ◌<◌}
 use native.Mathlib.Omega.{arith}
-use mathlib.Core.Path.{◌≡◌, refl, sym, ◌∙◌, ap, subst}
+use mathlib.Core.Path.{Path, ◌≡◌, refl, sym, ◌∙◌, ap, subst}
 use mathlib.Core.Bool.{Bool, true, false}
 use mathlib.Core.List.{List}
 use lib.Dec.{eqb}
@@ -26,6 +26,8 @@ use Rattle.line.proofs.AcceptedLaws.{answered-number, answered-line, answered-co
 use Rattle.chart.specs.Built.{BuiltRoom}
 use Rattle.unfold.specs.Unfold.{Held, start_number, start_steps, Found}
 use Rattle.std.specs.Prelude.{Option, Some, None, Result, Ok, Err}
+use Rattle.std.specs.Option.{ok_or}
+use Rattle.std.proofs.lemmas.Result.{IfErr-at_err}
 use Rattle.reader.specs.declared.read.Reading.{Reading}
 use Rattle.reader.specs.Read.{answer_from, read_number, Reads}
 use Rattle.chart.proofs.BuiltLaws.{built-more}
@@ -119,7 +121,7 @@ module _ (card line old_chart old_plan : List ℕ) {w : Words} (x : Accepts card
     room-enough : plan_room (words_in line) ≤ length old_plan
     room-enough = subst (λ (n : ℕ). plan_room n ≤ length old_plan) (answered-count x) enough
 
-    pub ends-over : BuiltRoom card (word_test w.places) w.count None old_chart new_chart
+    ends-over : BuiltRoom card (word_test w.places) w.count None old_chart new_chart
         → Reads card line old_chart old_plan new_chart old_plan (Err ChartRoom)
     ends-over made =
         let full = line-built None made in
@@ -128,6 +130,13 @@ module _ (card line old_chart old_plan : List ℕ) {w : Words} (x : Accepts card
         (built-more card (line_test card line) (words_in line) full))
         full.room refl
 
+    -- As `ok_or` answers it: the room is too short where no count came.
+    pub ends-full : {e : Refusal} {b : Option ℕ} → Path (Result ℕ Refusal) (Err e) (ok_or b ChartRoom) → b ≡ None
+        → BuiltRoom card (word_test w.places) w.count b old_chart new_chart → Reads card line old_chart old_plan new_chart old_plan (Err e)
+    ends-full {b = b} v none made =
+        IfErr-at_err (λ e. Reads card line old_chart old_plan new_chart old_plan (Err e))
+        (sym (v ∙ ap (λ (b : Option ℕ). ok_or b ChartRoom) none)) (ends-over (rw none at made))
+
     module _ (count : ℕ) (made : BuiltRoom card (word_test w.places) w.count (Some count) old_chart new_chart) where
       chart-held : Held card (line_test card line) new_chart count
       chart-held = held card line old_chart new_chart count (answered-line x).card_accepted (line-built (Some count) made)
@@ -135,7 +144,6 @@ module _ (card line old_chart old_plan : List ℕ) {w : Words} (x : Accepts card
       pub charted : Charted card new_chart w.count count old_plan
       charted =
           record {
-            accepted = (answered-line x).card_accepted;
             at = line_test card line;
             held = chart-held;
             some_words = w.some;

@@ -1,4 +1,3 @@
-pub mod Accepting
 pub mod Feet
 pub mod ReadBack
 pub mod Starts

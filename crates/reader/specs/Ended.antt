@@ -1,15 +1,13 @@
 -- Read with a chart in its room. What planning asks of such a room, and what it answers:
 -- the plan of the item of the start over all words where the chart has it, and an untouched room where it has not.
 use Rattle.std.specs.Prelude.{ℕ, ◌≤◌, ◌≡◌, Bool, Option, Some, None, List, Ok, length}
-use Rattle.layout.specs.Card.{card_number}
 use Rattle.layout.specs.Steps.{plan_room}
 use Rattle.unfold.specs.Unfold.{Held, Planned, start_number, start_steps, Found}
 use Rattle.reader.specs.Read.{answer_from}
 use Rattle.reader.specs.declared.read.Reading.{Reading}
 
--- The card is accepted, the first count records of the room are justified for the line of some test, and a plan of n words has room.
+-- The first count records of the room are justified for the line of some test, and a plan of n words has room.
 pub record Charted (card chart : List ℕ) (n count : ℕ) (plan : List ℕ) : Type 0 where
-  pub accepted : card_number card ≡ 0
   pub at : ℕ → ℕ → Bool
   pub held : Held card at chart count
   pub some_words : 1 ≤ n

@@ -3,7 +3,12 @@ ghost use Rattle.reader.specs.Read.{Reads};
 ghost use Rattle.reader.specs.Ended.{Charted, PlanOf};
 
 use card::Card;
+use chart::input::Input;
+use places::MOST_WORDS;
 use refusals::Refusal;
+
+// Room for the plan of any line: four bytes for each of 2n - 1 steps.
+pub const PLAN_ROOM: usize = 4 * (2 * MOST_WORDS - 1);
 
 // What the chart of an accepted line says: how many words and items there are, and how many steps its plan has, if there is one.
 #[derive(Clone, Copy)]
@@ -25,7 +30,7 @@ fn plan_of(card: Card, n: usize, items: usize, chart: &[u8], plan: &mut [u8]) ->
             steps: None,
         };
     };
-    unfold::unfold(card, chart, items, m, n, plan);
+    unfold::unfold(card, chart, m, plan);
     Reading {
         words: n,
         items,
@@ -48,9 +53,11 @@ pub fn read_line(
     if plan.len() < 4 * (2 * n - 1) {
         return Err(Refusal::PlanRoom);
     }
-    let Some(items) = chart::build_chart(card, &words, chart) else {
-        return Err(Refusal::ChartRoom);
+    let input = Input {
+        card,
+        words: &words,
     };
+    let items = chart::build_chart(input, chart).ok_or(Refusal::ChartRoom)?;
     Ok(plan_of(card, n, items, chart, plan))
 }
 

@@ -5,19 +5,13 @@ use native.Mathlib.Nat.{zero-add, suc-add}
 use native.Mathlib.Numerals.{add-one}
 use mathlib.Core.Path.{◌≡◌, refl, sym, ◌∙◌, ap}
 use mathlib.Core.List.{List, [], ◌∷◌, ◌++◌, append_assoc}
-use lib.ListN.{length, take, drop, set, length-set, take-append-drop}
+use lib.ListN.{length, take, drop, set, take-append-drop}
 use lib.Seq.{take_at, drop_at}
 use Rattle.grammar.specs.Items.{bare, foot}
 use Rattle.grammar.specs.ItemList.{item}
 use Rattle.grammar.specs.Chart.{Record, recorded}
 use Rattle.records.specs.Room.{record_bytes, chart_bytes, record_at, chart_in, numbered, numbered_chart, numbers_cleared}
 use Rattle.records.proofs.RoomLaws.{chart-length, chart-more, chart-bytes-length, numbered-chart-length, concat_map-last}
-
-pub cleared-length : (m : ℕ) (bytes : List ℕ) → length (numbers_cleared m bytes) ≡ length bytes
-cleared-length zero bytes = refl
-cleared-length (suc m) bytes =
-    length-set (set (numbers_cleared m bytes) (16 * m + 14) 0) (16 * m + 15) 0 ∙ length-set (numbers_cleared m bytes) (16 * m + 14) 0
-    ∙ cleared-length m bytes
 
 pub cleared_more : (m : ℕ) (bytes here : List ℕ) → here ≡ numbers_cleared m bytes
     → set (set here (16 * m + 14) 0) (16 * m + 15) 0 ≡ numbers_cleared (m + 1) bytes

@@ -5,7 +5,8 @@ ghost use Rattle.records.specs.Filling.{WorksOn, FootGiven, AddedTo};
 
 use crate::record::{Foot, OpenCell, Origin};
 
-// The count of items afterwards; none where the room is full. The number is the foot's.
+// The count of items afterwards; none where the room is full. The number is the foot's, and has 16 bits (`as`: there is no `From`).
+// Foot and number are read apart where a cell is finished, and so no struct that would be made and taken apart at each call.
 // Room, marks and count are no struct: of a `&mut` in a field each contract has to say besides that it is the same one afterwards.
 pub fn add(
     chart: &mut [u8],

@@ -1,9 +1,9 @@
-// The table of cells: four numbers for each. Where its records stand, from and to; one more than the position of its bare item, or 0; and
-// its cover: 0, or one more than the number of a cell that has every foot of it. Numbers and no options, since the memory is fixed.
+// The table of cells: four numbers for each, side by side in one list, which is cleared as one; a struct of four would have its laws for a list of
+// numbers and once more for the fields. Where its records stand, from and to; one more than the position of its bare item, or 0; and
+// its cover: 0, or one more than the number of a cell that has every foot of it. Numbers and no options, since the memory is fixed. They are below
+// 65,536, which each contract asks: `as` has nothing to cut off, there is no `From`, and `try_from` would test it once more.
 ghost use Rattle.std.specs.Prelude.{◌≡◌, ◌+◌, ◌*◌, ◌≤◌, ◌<◌, length};
-ghost use Rattle.layout.specs.Card.{max_nonterminals};
-ghost use Rattle.layout.specs.Line.{most_words};
-ghost use Rattle.records.specs.Cells.{spans, span_at, cell_at, number_of, numbered_by, range_in, with_range, cover_in, with_cover};
+ghost use Rattle.records.specs.Cells.{number_of, numbered_by, range_in, with_range, cover_in, with_cover};
 ghost use Rattle.records.specs.Cells.{covered_in, noted_anew};
 
 #[derive(Clone, Copy)]
@@ -15,21 +15,6 @@ pub struct Range {
 
 // The numbers of a cell.
 pub const NUMBERS: usize = 4;
-
-// The place of a span among those of n words, and of a cell where each span has so many nonterminals.
-pub fn span_at(n: usize, i: usize, j: usize) -> usize
-    requires { (n ≤ most_words) × (i < j) × (j ≤ n) }
-    ensures { (result ≡ span_at i j) × (result < spans n) }
-{
-    ((j * (j - 1)) >> 1) + i
-}
-
-pub fn cell_at(n: usize, symbols: usize, a: usize, i: usize, j: usize) -> usize
-    requires { (n ≤ most_words) × (symbols ≤ max_nonterminals) × (a < symbols) × (i < j) × (j ≤ n) }
-    ensures { (result ≡ cell_at symbols a i j) × (result < spans n * symbols) }
-{
-    span_at(n, i, j) * symbols + a
-}
 
 // The range of a cell.
 pub fn range_of(cells: &[u16], cell: usize) -> Range

@@ -1,10 +1,14 @@
 // Records in the room: 16 bytes each, the last two of which hold the number of the foot while a chart is being built.
-ghost use Rattle.std.specs.Prelude.{◌≡◌, ◌++◌, ◌+◌, ◌*◌, ◌≤◌, length, take, drop};
+ghost use Rattle.std.specs.Prelude.{◌≡◌, ◌++◌, ◌+◌, ◌*◌, ◌≤◌, ◌<◌, length, take, drop};
 ghost use Rattle.layout.specs.Bytes.{low_byte, high_byte};
+ghost use Rattle.layout.specs.Line.{most_words};
 ghost use Rattle.records.specs.Room.{foot_fields, record_from, Writable, with_number, number_there};
 
+use crate::span::Span;
+
 // The cell that is being filled: A over i to j; its number among the cells; and what bounds it: the line's words, the card's nonterminals,
-// the items that the room holds, and the count of records at which the cell was begun.
+// the items that the room holds, and the count of records at which the cell was begun. A, i and j are bytes, as each of its records has them, and
+// no `Span`, of which every record would have to be narrowed.
 #[derive(Clone, Copy)]
 pub struct OpenCell {
     pub words: usize,
@@ -15,6 +19,22 @@ pub struct OpenCell {
     pub left: u8,
     pub from: u8,
     pub to: u8,
+}
+
+impl OpenCell {
+    // What it lies over.
+    pub fn span(self) -> Span
+        requires { (self.words ≤ most_words) × (self.from < self.to) × (self.to ≤ self.words) }
+        ensures words { result.words ≡ self.words }
+        ensures from { result.from ≡ self.from }
+        ensures to { result.to ≡ self.to }
+    {
+        Span {
+            words: self.words,
+            from: usize::from(self.from),
+            to: usize::from(self.to),
+        }
+    }
 }
 
 // γ, B, p and q of an item; index 0 where there is no foot. The four bytes of a record as they stand, which C reads too, so no variant.
@@ -64,7 +84,7 @@ pub fn number_at(chart: &[u8], m: usize) -> usize
     octets::read16(chart, RECORD * m + 14)
 }
 
-// The two bytes of 16 bits. Not by `to_le_bytes`, which divides: the archive has no division.
+// The two bytes of 16 bits. Not by `to_le_bytes`, which divides: the archive has no division. To take eight bits is what `as` is for here.
 fn low(x: u16) -> u8
     ensures { result ≡ low_byte x }
 {

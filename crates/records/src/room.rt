@@ -19,7 +19,7 @@ pub fn clear(room: &mut [u8])
     room.fill(0);
 }
 
-// The two last bytes of the first records are 0.
+// The two last bytes of the first records are 0. A range and no `chunks_exact_mut`, which divides.
 pub fn clear_numbers(chart: &mut [u8], count: usize)
     requires { 16 * count ≤ length chart.old }
     ensures { chart.new ≡ numbers_cleared count chart.old }

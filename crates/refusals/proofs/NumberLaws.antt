@@ -6,7 +6,7 @@ use Rattle.refusals.specs.declared.Refusal.{Refusal}
 use Rattle.refusals.specs.declared.Refusal.TheVariants.{Mark, Counts, Lengths, Entry, Production, DeadName}
 use Rattle.refusals.specs.declared.Refusal.TheVariants.{NoWords, StrayByte, ManyWords, UnknownWord, NoReading}
 use Rattle.refusals.specs.declared.Refusal.TheVariants.{ChartRoom, PlanRoom, OutputRoom, NotItsPlan, NoSuchWord, ManyLines}
-use Rattle.refusals.specs.Number.{number_of, number_in}
+use Rattle.refusals.specs.Number.{number_of, number_told}
 
 -- Two digits.
 pub numbered : (refusal : Refusal) → (10 < number_of refusal) × (number_of refusal < 100)
@@ -29,6 +29,6 @@ numbered ManyLines = omega arith
 numbered DeadName = omega arith
 
 -- And where it is 0, there is none.
-pub no-refusal : {A : Type 0} (r : Result A Refusal) → number_in r ≡ 0 → IsOk r
+pub no-refusal : {A : Type 0} (r : Result A Refusal) → number_told r ≡ 0 → IsOk r
 no-refusal (Ok x) e = refl
 no-refusal (Err refusal) e = absurd (omega (arith, e, (numbered refusal).0))

@@ -25,9 +25,9 @@ number_of ManyLines = 41
 number_of DeadName = 42
 
 -- Of an answer: 0 where nothing is refused.
-abbrev pub number_in : {A : Type 0} → Result A Refusal → ℕ
-number_in (Ok x) = 0
-number_in (Err refusal) = number_of refusal
+abbrev pub number_told : {A : Type 0} → Result A Refusal → ℕ
+number_told (Ok x) = 0
+number_told (Err refusal) = number_of refusal
 
 -- And how many things an answer that counts them hands out: none where it is a refusal.
 abbrev pub count_in : Result ℕ Refusal → ℕ

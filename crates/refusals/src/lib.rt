@@ -2,7 +2,7 @@
 #![tactic(auto)]
 
 ghost use Rattle.std.specs.Prelude.{◌≡◌};
-ghost use Rattle.refusals.specs.Number.{number_of, number_in};
+ghost use Rattle.refusals.specs.Number.{number_of, number_told};
 
 // In the order in which documents 01 and 02 number them.
 #[derive(Clone, Copy, Debug, PartialEq, Eq)]
@@ -37,13 +37,14 @@ impl From<Refusal> for u64 {
     ghost from_gives = { λ refusal number. number ≡ number_of refusal };
 
     fn from(refusal: Refusal) -> u64 {
+        // A case's number is had by `as` alone.
         refusal as u64
     }
 }
 
 // The number of an answer: 0 where nothing is refused.
 pub fn number<T>(answer: &Result<T, Refusal>) -> u64
-    ensures { result ≡ number_in answer.now }
+    ensures { result ≡ number_told answer.now }
 {
     match answer {
         Ok(_) => 0,

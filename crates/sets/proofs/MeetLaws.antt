@@ -13,19 +13,20 @@ use lib.Seq.{get_or-set_same, get_or-set_other}
 use Rattle.bits.specs.Bits.{bit_of, Without}
 use Rattle.bits.proofs.BitLaws.{bit_of-zero, bit_of-or, bit_of-power, bit_of-other}
 use Rattle.bits.proofs.BitSets.{or-bits, without-has, without-lacks, and_zero, and_one, bit-one}
+use Rattle.records.specs.Cells.{spans}
 use Rattle.sets.specs.Places.{bounds, meeting_at, splits_at, spans_at, first_at, second_at, row_at, column_at, OnlyMeeting}
 use Rattle.sets.specs.Spans.{Rows, both_at, Met, Meets, SplitsOf}
-use Rattle.sets.proofs.RowLaws.{rows_at, rows-kept}
+use Rattle.sets.proofs.RowLaws.{rows-kept}
 
 -- The splits of a span that its row and its column share.
 abbrev splits_in : ℕ → List ℕ → ℕ → ℕ → ℕ
 splits_in n sets i j = bit_and (get_or sets (row_at n i) 0) (get_or sets (column_at n j) 0)
 
-pub splits-are : (n i j : ℕ) (sets : List ℕ)
-    → bit_and (get_or sets (spans_at + n * (n + 1) + 2 * i) 0) (get_or sets (spans_at + n * (n + 1) + 2 * j + 1) 0) ≡ splits_in n sets i j
-splits-are n i j sets =
-    let row : spans_at + n * (n + 1) + 2 * i ≡ row_at n i = omega (arith, rows_at n) in
-    let column : spans_at + n * (n + 1) + 2 * j + 1 ≡ column_at n j = omega (arith, rows_at n) in
+pub splits-are : {rows : ℕ} (n i j : ℕ) (sets : List ℕ) → rows ≡ spans_at + 2 * spans n
+    → bit_and (get_or sets (rows + 2 * i) 0) (get_or sets (rows + 2 * j + 1) 0) ≡ splits_in n sets i j
+splits-are {rows} n i j sets e =
+    let row : rows + 2 * i ≡ row_at n i = omega arith in
+    let column : rows + 2 * j + 1 ≡ column_at n j = omega arith in
     ap₂ (λ (x y : ℕ). bit_and (get_or sets x 0) (get_or sets y 0)) row column
 
 module _ {n i j splits : ℕ} {sets : List ℕ} (r : Rows n sets) (e : splits ≡ splits_in n sets i j) where

@@ -4,21 +4,22 @@
 
 pub mod like;
 
-ghost use Rattle.std.specs.Prelude.{◌≡◌, ℕ, ◌≤◌, ◌<◌, length, get_or, replicate};
+ghost use Rattle.std.specs.Prelude.{◌≡◌, ℕ, ◌+◌, ◌*◌, ◌≤◌, ◌<◌, length, get_or, replicate};
 ghost use Rattle.layout.specs.Card.{max_nonterminals, max_productions, grammar_of};
 ghost use Rattle.layout.specs.Line.{most_words};
 ghost use Rattle.layout.specs.Rules.{RuleCounted};
 ghost use Rattle.layout.specs.Card.{max_words, max_indices};
 ghost use Rattle.card.specs.Productions.{rule_from};
 ghost use Rattle.bits.specs.Bits.{bit_of};
-ghost use Rattle.records.specs.Cells.{number_of};
-ghost use Rattle.sets.specs.Places.{bounds, class_count, splits_at, spans_at, OnlyClasses, OnlyMeeting};
+ghost use Rattle.records.specs.Cells.{number_of, spans};
+ghost use Rattle.sets.specs.Places.{bounds, class_count, splits_at, spans_at, first_at, OnlyClasses, OnlyMeeting};
 ghost use Rattle.sets.specs.Classes.{Classified, with_bit, Joined, OfWords};
 ghost use Rattle.sets.specs.Spans.{Rows, Met, Meets, SplitsOf, Noted};
 
 use card::{Card, Production};
 use places::MOST_WORDS;
 use records::record::OpenCell;
+use records::span::Span;
 
 // For each nonterminal five sets: its own productions; those whose first element is a side or a dependent of this name; and those whose
 // second element is. Then the word productions of each word.
@@ -40,7 +41,24 @@ const SPLITS: usize = MEETING + MOST_WORDS + 1;
 // The sets of spans come last.
 pub const SPANS: usize = SPLITS + 1;
 
-// One production into the set at a place.
+// The place of the first set of a span; its second comes next.
+fn place(span: Span) -> usize
+    ensures at { result ≡ first_at span.from span.to }
+    ensures below { result + 1 < spans_at + 2 * spans span.words }
+{
+    SPANS + 2 * span.number()
+}
+
+// Where the rows and columns of a line of so many words begin: past two sets for each of its spans.
+fn rows(words: usize) -> usize
+    requires { words ≤ most_words }
+    ensures { result ≡ spans_at + 2 * spans words }
+{
+    SPANS + words * (words + 1)
+}
+
+// One production into the set at a place. `1u64 << k` is written out here, below and in like.rt: these sets have 64 bits, those of words 32
+// (`bits::with` and `bits::has`), and a trait for one shift would be no plainer.
 fn put(sets: &mut [u64], at: usize, p: usize)
     requires { (at < length sets.old) × (p < max_productions) }
     ensures { sets.new ≡ with_bit sets.old at p }
@@ -104,18 +122,18 @@ pub fn of_words(sets: &[u64], words: u32) -> u64
     productions
 }
 
-// What meets over i to j: at each split the productions that have both elements there, and the splits; the answer has all of them.
-pub fn meet(sets: &mut [u64], n: usize, i: usize, j: usize) -> u64
-    requires { (n ≤ most_words) × (i < j) × (j ≤ n) × Rows n sets.old }
-    ensures { Met sets.new i j × Meets sets.new i j result × OnlyMeeting sets.old sets.new }
+// What meets over a span: at each split the productions that have both elements there, and the splits; the answer has all of them.
+pub fn meet(sets: &mut [u64], span: Span) -> u64
+    requires { Rows span.words sets.old }
+    ensures { Met sets.new span.from span.to × Meets sets.new span.from span.to result × OnlyMeeting sets.old sets.new }
 {
-    let rows = SPANS + n * (n + 1);
-    let splits = sets[rows + 2 * i] & sets[rows + 2 * j + 1];
+    let rows = rows(span.words);
+    let splits = sets[rows + 2 * span.from] & sets[rows + 2 * span.to + 1];
     sets[SPLITS] = splits;
     let mut productions = 0u64;
     for k in bits::numbers(splits) {
-        let first = sets[SPANS + 2 * records::cells::span_at(n, i, k)];
-        let second = sets[SPANS + 2 * records::cells::span_at(n, k, j) + 1];
+        let first = sets[place(span.before(k))];
+        let second = sets[place(span.after(k)) + 1];
         let here = first & second;
         sets[MEETING + k] = here;
         productions |= here;
@@ -137,18 +155,18 @@ pub fn note(sets: &mut [u64], cell: OpenCell, bare: Option<usize>)
         × Rows cell.words sets.old }
     ensures { Noted cell.words cell.left cell.from cell.to (number_of bare) sets.old sets.new }
 {
-    let n = cell.words;
+    let span = cell.span();
     let a = usize::from(cell.left);
-    let at = SPANS + 2 * records::cells::span_at(n, usize::from(cell.from), usize::from(cell.to));
+    let at = place(span);
     let mut first = sets[FIRST_DEPENDENTS + a];
     let mut second = sets[SECOND_DEPENDENTS + a];
     if bare.is_some() {
         first |= sets[FIRST_SIDES + a];
         second |= sets[SECOND_SIDES + a];
     }
-    let rows = SPANS + n * (n + 1);
-    let row = rows + 2 * usize::from(cell.from);
-    let column = rows + 2 * usize::from(cell.to) + 1;
+    let rows = rows(span.words);
+    let row = rows + 2 * span.from;
+    let column = rows + 2 * span.to + 1;
     if first != 0 {
         sets[at] |= first;
         sets[row] |= 1u64 << cell.to;

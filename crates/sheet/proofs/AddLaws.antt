@@ -1,6 +1,5 @@
 -- One line of a sheet: what Read promises with the reader's own plan room, and the records of the plan that stands there.
 use Prim.Native.Nat.{ℕ, ◌+◌, ◌*◌, ◌≤◌}
-use native.Mathlib.Omega.{arith}
 use mathlib.Core.Path.{◌≡◌, sym, ◌∙◌, ap, subst}
 use mathlib.Core.List.{List, map}
 use lib.ListN.{length, take}
@@ -10,7 +9,6 @@ use Rattle.layout.specs.Steps.{steps_of}
 use Rattle.layout.specs.Written.{Wrote}
 use Rattle.layout.specs.Answers.{ReadAnswer, read_answer, chart_state, ChartAfter, plan_pairs}
 use Rattle.layout.proofs.Checking.{steps-bytes}
-use Rattle.layout.proofs.Packing.{read_fits}
 use Rattle.reader.specs.Read.{answer_from, Reads}
 use Rattle.reader.specs.Read as read
 use Rattle.std.specs.Prelude.{Result}
@@ -28,13 +26,6 @@ module _ {card line old_chart old_plan new_chart new_plan : List ℕ} {a : Resul
 
   chart-is : ChartAfter card line (chart_state (read_number card (length old_chart) line)) old_chart new_chart
   chart-is = subst (λ (n : ℕ). ChartAfter card line (chart_state n) old_chart new_chart) number_is x.chart
-
-  pub steps-few : (answer_from a).steps ≤ 47
-  steps-few = omega (arith, ap (λ (r : ReadAnswer). r.steps) x.answer, (read_fits card line (length old_chart) (length old_plan)).steps)
-
-  -- A refusal: the records do not matter.
-  pub adds_none : {k : ℕ} {old new : Records} → ((read.read_number a) ≡ 0 → ⊥) → Adds card line k old_chart new_chart old new (read.read_number a)
-  adds_none ne = record { number = number_is; chart = chart-is; read = λ z. absurd (ne z) }
 
   -- A reading, with the records of its plan.
   module _ (z : (read.read_number a) ≡ 0) where

@@ -93,8 +93,8 @@ module _ {card line old_chart old_output new_chart new_output : List ℕ} {numbe
 
   -- The parts of the answer, where it is a.
   module _ (a : SheetAnswer) (e : sheet_answer card line m k s.plans ≡ a) where
-    number_in : number ≡ a.number
-    number_in = s.number_is ∙ ap (λ (x : SheetAnswer). x.number) e
+    number_told : number ≡ a.number
+    number_told = s.number_is ∙ ap (λ (x : SheetAnswer). x.number) e
 
     at_in : at ≡ a.line
     at_in = s.line_is ∙ ap (λ (x : SheetAnswer). x.line) e
@@ -112,7 +112,7 @@ module _ {card line old_chart old_output new_chart new_output : List ℕ} {numbe
       record {
         chart = c;
         place = at_in (refused_at own 0) e;
-        refused = λ _. (number_in (refused_at own 0) e, count-in (refused_at own 0) e, output-in (refused_at own 0) e);
+        refused = λ _. (number_told (refused_at own 0) e, count-in (refused_at own 0) e, output-in (refused_at own 0) e);
         read = λ z. absurd (ne z);
       }
 
@@ -189,7 +189,7 @@ module _ {card line old_chart old_output new_chart new_output : List ℕ} {numbe
           chart = chart-there e refl;
           place = at_in a answered ∙ line-zero (within (map (sheet_record 0) pairs) k);
           refused = λ ne. absurd (ne z);
-          read = λ _. (plan, passes, (number_in a answered, count-in a answered, output-in a answered));
+          read = λ _. (plan, passes, (number_told a answered, count-in a answered, output-in a answered));
         }
 
     by-an-order : own ≡ 0 → AsLine card line old_chart old_output new_chart new_output plan_room' pair_room number at count

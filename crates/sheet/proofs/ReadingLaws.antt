@@ -1,7 +1,8 @@
 -- Lines read one after the other: their records stand at the start of the room, and the others are left.
 use Prim.Native.Nat.{ℕ, ◌+◌, ◌*◌, ◌≤◌, ◌<◌}
 use native.Mathlib.Omega.{arith}
-use mathlib.Core.Path.{◌≡◌, refl, sym, ◌∙◌, ap, subst}
+use mathlib.Core.Path.{Path, ◌≡◌, refl, sym, ◌∙◌, ap, subst}
+use mathlib.Core.Bool.{Bool, true, false, false≢true}
 use mathlib.Core.List.{List, [], ◌∷◌, ◌++◌, map, append_assoc, append-nil}
 use mathlib.Core.Option.{none, some}
 use lib.ListN.{length, take, length-append, length-map}
@@ -16,9 +17,11 @@ use Rattle.sheet.specs.Promise.{EachRead}
 use Rattle.sheet.specs.Promise as promise
 use Rattle.sheet.specs.Reading.{RoomForLine, Adds, Ends}
 use Rattle.sheet.specs.declared.sheet_records.Records.{Records}
-use Rattle.std.specs.Prelude.{Ok, Err}
+use Rattle.std.specs.Prelude.{Result, Ok, Err}
+use Rattle.std.specs.Result.{is_ok, MatchResult}
+use Rattle.sheet.specs.declared.Refused.{Refused}
 use Rattle.refusals.specs.declared.Refusal.{Refusal}
-use Rattle.refusals.specs.Number.{number_of}
+use Rattle.refusals.specs.Number.{number_of, number_told}
 use Rattle.refusals.proofs.NumberLaws.{numbered}
 use Rattle.sheet.specs.Answered.{refused}
 use Rattle.sheet.proofs.RecordLaws.{sheet-bytes-join, records-one-more}
@@ -55,8 +58,27 @@ none_yet card sheet chart records e z =
       bytes = rw z;
     }
 
+pub at-place : {card sheet old chart : List ℕ} {records : Records} {place here : ℕ} {left : List (List ℕ)} → SoFar card sheet old chart records place left
+    → here ≡ place → SoFar card sheet old chart records here left
+at-place s e = rw e s
+
+-- A result is one or the other.
+abbrev is_err : {A E : Type 0} → Result A E → Bool
+is_err (Ok x) = false
+is_err (Err e) = true
+
+err-ok : {A E : Type 0} {e : E} {x : A} → Path (Result A E) (Err e) (Ok x) → ⊥
+err-ok p = false≢true (sym (ap is_err p))
+
+pub ok-number : {A : Type 0} (x : Result A Refusal) → true ≡ is_ok x → number_told x ≡ 0
+ok-number (Ok x) e = refl
+ok-number (Err refusal) e = absurd (false≢true (sym e))
+
 module _ {card sheet old chart : List ℕ} {records : Records} {place : ℕ} {left : List (List ℕ)}
     (s : SoFar card sheet old chart records place left) (most : length (lines_of sheet) ≤ most_lines) where
+  pub few-places : place ≤ most_lines
+  few-places = omega (arith, s.places, ap length s.split, length-append s.lines left)
+
   -- A line is to come: its place and its records have room.
   module _ {line : List ℕ} {rest : List (List ℕ)} (e : left ≡ line ∷ rest) where
     pub place-below : place < most_lines
@@ -131,6 +153,13 @@ module _ {card sheet old chart : List ℕ} {records : Records} {place : ℕ} {le
                 ∙ ap (λ (c : Course). course_answer number c (records_from card 0 s.plans) room) (sym is);
             kept = tt;
           }
+
+      -- The same where the refusal came with its place.
+      pub fails-placed : (x : Result (Unit {0}) Refusal) {e : Refused} {Says : Refusal → Type 0} → number_told x ≡ r
+          → MatchResult x (λ (u : Unit {0}). Path (Result (Unit {0}) Refused) (Err e) (Ok u)) Says
+          → ((refusal : Refusal) → Says refusal → e ≡ refused refusal place) → Ends card sheet old new_chart new (Err e)
+      fails-placed (Ok u) same cases says = absurd (err-ok cases)
+      fails-placed (Err refusal) same cases says = rw (says refusal cases) (fails-there same)
 
   -- No line is left: every line is read.
   pub at-end : left ≡ [] → Ends card sheet old chart records (Ok tt)

@@ -6,6 +6,8 @@ use mathlib.Core.List.{List, [], ◌∷◌, ◌++◌, map, append_assoc, append-
 use lib.ListN.{length, take, drop, length-map}
 use lib.Seq.{take_at}
 use borrow.Author.Tests.{le-ltb}
+use mathlib.Core.Logic.{∥∥₁_elim}
+use Rattle.std.proofs.Props.{props}
 use Rattle.grammar.specs.Plan.{PlanStep}
 use Rattle.grammar.specs.Pairs.{Pair, pair, place_in, pairs_of}
 use Rattle.grammar.proofs.ListLaws.{length-concat_map}
@@ -15,11 +17,11 @@ use Rattle.layout.specs.Answers.{PairsAnswer, plan_pairs, pairs_within}
 use Rattle.layout.specs.Written.{Wrote}
 use Rattle.layout.proofs.Lengths.{pair-length, pairs-bytes-length}
 use Rattle.layout.proofs.Packing.{passing-pairs-few}
-use Rattle.check_pairs.specs.Matching.{Checked}
+use Rattle.check_pairs.specs.Checked.{Checked}
 use Rattle.check_pairs.specs.Paired.{PairsOf}
 use Rattle.std.specs.Prelude.{Result}
 use Rattle.refusals.specs.declared.Refusal.{Refusal}
-use Rattle.refusals.specs.Number.{number_in, count_in}
+use Rattle.refusals.specs.Number.{number_told, count_in}
 use Rattle.sheet.specs.Sheet.{SheetRecord, sheet_record, records_from, sheet_record_bytes, sheet_bytes}
 use Rattle.sheet.specs.Placed.{placed}
 use Rattle.sheet.specs.declared.sheet_records.Records.{Records}
@@ -58,18 +60,18 @@ records-one-more card (first ∷ plans) plan k =
     ∙ ap (λ (n : ℕ). (own ++ others) ++ last n) z
 
 -- What Pairs leaves in a room of 22 bytes: all pairs of a plan that passes.
-module _ {card plan before after : List ℕ} {r : Result ℕ Refusal} (checked : Checked card plan) (p : PairsOf card plan before after r)
+module _ {card plan before after : List ℕ} {r : Result ℕ Refusal} (checked : ∥ Checked card plan ∥₁) (p : PairsOf card plan before after r)
     (l : length before ≡ 22) where
   abbrev pairs : List Pair
   pairs = plan_pairs card (steps_of plan)
 
   pub pairs-few : length pairs ≤ 11
-  pairs-few = let (line, e) = checked in passing-pairs-few card line plan e
+  pairs-few = ∥∥₁_elim checked (hlevel props) (λ c. passing-pairs-few card c.0 plan c.1)
 
   all-within : pairs_within pairs (length before) ≡ record { number = 0; pairs = pairs }
   all-within = rw (le-ltb (length before) (2 * length pairs) (omega (arith, pairs-few)))
 
-  pub no-refusal : number_in r ≡ 0
+  pub no-refusal : number_told r ≡ 0
   no-refusal = p.number ∙ ap (λ (a : PairsAnswer). a.number) all-within
 
   pub count-pairs : count_in r ≡ length pairs

@@ -5,21 +5,20 @@ mod sheet_records;
 
 ghost use Rattle.std.specs.Prelude.{◌≡◌, ◌≤◌, length};
 ghost use Rattle.split.specs.Lines.{lines_of};
-ghost use Rattle.refusals.specs.Number.{number_in};
+ghost use Rattle.refusals.specs.Number.{number_told};
 ghost use Rattle.sheet.specs.Sheet.{most_lines};
 ghost use Rattle.sheet.specs.Promise.{Sheet};
 ghost use Rattle.sheet.specs.Answered.{refused, answer_number, answer_line, answer_count};
 ghost use Rattle.sheet.specs.Reading.{RoomForLine, Adds, Ends, HandsOut};
 
 use card::Card;
+use check_pairs::plan::Passed;
+use reader::read::PLAN_ROOM;
 use refusals::Refusal;
 use sheet_records::Records;
 
 // How many lines a sheet may have.
 const MOST_LINES: usize = 64;
-
-// Room for the plan of any line: four bytes for each of 2n - 1 steps, and n is at most 24.
-const PLAN_ROOM: usize = 4 * 47;
 
 // Why a sheet is not accepted, and the line that this is about.
 #[derive(Clone, Copy)]
@@ -47,14 +46,16 @@ fn add_line(
 ) -> Result<(), Refusal>
     requires { RoomForLine records.old }
     ensures { Adds card.entry.bytes.now line.now place chart.old chart.new
-        records.old records.new (number_in result) }
+        records.old records.new (number_told result) }
 {
     let mut plan = [0u8; PLAN_ROOM];
     let reading = reader::read::read_line(card, line, chart, &mut plan)?;
-    let Some(steps) = reading.steps else {
-        return Err(Refusal::NoReading);
+    let steps = reading.steps.ok_or(Refusal::NoReading)?;
+    let passed = Passed {
+        card,
+        plan: &plan[..4 * steps],
     };
-    records.add(card, &plan[..4 * steps], place);
+    records.add(passed, place);
     Ok(())
 }
 
@@ -68,16 +69,12 @@ fn read_lines(
     requires { (length (lines_of sheet.now) ≤ most_lines) × (records.old.count ≡ 0) }
     ensures { Ends card.entry.bytes.now sheet.now chart.old chart.new records.new result }
 {
-    // A byte, as a record has it: `enumerate` would count wider, and want a cast.
-    let mut place = 0;
-    for line in split::lines(sheet) {
-        if let Err(refusal) = add_line(card, line, place, chart, records) {
-            return Err(Refused {
-                refusal,
-                line: place,
-            });
-        }
-        place += 1;
+    // Places are bytes, as a record has them, and there are more of these than lines.
+    for (place, line) in (0..u8::MAX).zip(split::lines(sheet)) {
+        add_line(card, line, place, chart, records).map_err(|refusal| Refused {
+            refusal,
+            line: place,
+        })?;
     }
     Ok(())
 }

@@ -1,18 +1,18 @@
 // The records of a sheet: three bytes for each pair of a line, its line's place first.
 ghost use Rattle.std.specs.Prelude.{◌≡◌, ◌*◌, ◌+◌, ◌≤◌, length, take};
 ghost use Rattle.layout.specs.Written.{Wrote};
-ghost use Rattle.check_pairs.specs.Matching.{Checked};
 ghost use Rattle.sheet.specs.Placed.{placed, record_room};
 
-use card::Card;
+use crate::MOST_LINES;
+use check_pairs::plan::Passed;
 
 // So many pairs a line has at most; it is a theorem that none has more.
 const MOST_PAIRS: usize = 11;
 
 const PAIR_ROOM: usize = 2 * MOST_PAIRS;
 
-// Room for the records of 64 lines.
-const RECORD_ROOM: usize = 64 * 3 * MOST_PAIRS;
+// Room for the records of every line.
+const RECORD_ROOM: usize = MOST_LINES * 3 * MOST_PAIRS;
 
 // The records so far, one after the other from the start of their room.
 #[derive(Drop)]
@@ -56,13 +56,13 @@ impl Records {
     }
 
     // The records of a plan that passes Check, behind those that are there.
-    pub fn add(&mut self, card: Card, plan: &[u8], place: u8)
-        requires { Checked card.bytes.now plan.now × RoomForLine self.old }
-        ensures { AddsRecords card.entry.bytes.now plan.now place self.old self.new }
+    pub fn add(&mut self, passed: Passed, place: u8)
+        requires { RoomForLine self.old }
+        ensures { AddsRecords passed.entry.card.bytes.now passed.entry.plan.now place self.old self.new }
     {
         let mut pairs = [0u8; PAIR_ROOM];
         // The room is long enough for the pairs of any plan that passes.
-        let count = check_pairs::pairs_of(card, plan, &mut pairs).unwrap();
+        let count = passed.pairs_of(&mut pairs).unwrap();
         self.put(place, &pairs[..2 * count]);
     }
 }

@@ -1,15 +1,15 @@
 -- The lines of an input, taken from the front.
 use Prim.Native.Nat.{ℕ, suc, ◌+◌, ◌-◌, ◌<◌}
 use native.Mathlib.Omega.{arith}
-use mathlib.Core.Path.{◌≡◌, refl, ◌∙◌, ap}
+use mathlib.Core.Path.{◌≡◌, refl, ap}
 use mathlib.Core.Bool.{Bool, true, false, not, cond}
 use mathlib.Core.List.{List, [], ◌∷◌}
 use lib.Dec.{eqb}
 use lib.ListN.{length, take, drop, length-drop}
 use lib.Seq.{drop-drop}
 use Rattle.std.specs.List.{prefix_len}
-use Rattle.std.proofs.lemmas.List.Folds.{length-prefix_len}
-use Rattle.std.proofs.lemmas.List.Sums.{prefix_len-le-length}
+use Rattle.octets.specs.Past.{Past}
+use Rattle.octets.proofs.PastLaws.{past-run}
 use Rattle.split.specs.Lines.{newline, in_front, lines_of, LineEnds}
 
 -- A byte that ends no line; how many stand in front.
@@ -38,15 +38,14 @@ first-line (b ∷ c ∷ bytes) h = go (eqb b newline) (before_end (c ∷ bytes))
         let two : 1 + n + 1 ≡ suc (n + 1) = omega arith in
         rw (two, one) (ap (in_front b) e)
 
-pub line-ends : (input : List ℕ) (at : ℕ) {n : ℕ} → at < length input → n ≡ length (take (before_end (drop at input)) (drop at input))
-    → LineEnds input at (at + n)
-line-ends input at {n} h e =
+pub line-ends : {fits : ℕ → Bool → Type 0} {input : List ℕ} {at end : ℕ} → at < length input → ((b : ℕ) (r : Bool) → fits b r → r ≡ ends_none b)
+    → Past fits input at end → LineEnds input at end
+line-ends {fits} {input} {at} {end} h tells p =
     let rest = drop at input in
-    let same : n ≡ before_end rest = e ∙ length-prefix_len ends_none rest in
-    let there : at + n - at ≡ before_end rest = omega arith in
-    let past : at + n + 1 ≡ at + (before_end rest + 1) = omega arith in
+    let run : end - at ≡ before_end rest = past-run ends_none tells p in
+    let next : end + 1 ≡ at + (before_end rest + 1) = omega (arith, run, p.after) in
     record {
-      starts = omega arith;
-      within = omega (arith, prefix_len-le-length ends_none rest, length-drop at input);
-      first = rw (there, past, ← drop-drop) (first-line rest (omega (arith, length-drop at input)));
+      starts = p.after;
+      within = p.within;
+      first = rw (run, next, ← drop-drop) (first-line rest (omega (arith, length-drop at input)));
     }

@@ -11,7 +11,7 @@ pub fn line_end(input: &[u8], at: usize) -> usize
     requires { at < length input.now }
     ensures { LineEnds input.now at result }
 {
-    at + input[at..].iter().take_while(|b| **b != b'\n').count()
+    octets::past(input, at, |b| b != b'\n')
 }
 
 // The lines of what is left of an input.

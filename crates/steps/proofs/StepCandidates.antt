@@ -23,14 +23,14 @@ use Rattle.records.specs.declared.record.OpenCell.{OpenCell}
 use Rattle.records.specs.declared.record.Foot as declared
 use Rattle.records.specs.declared.cells.Range.{Range}
 use Rattle.records.specs.Room.{as_foot, foot_there, foot_fields, chart_in, FootFits, Writable, foot_number, number_there, Working, Added}
-use Rattle.records.specs.Cells.{number_of, cell_at, range_in, bare_in, SpanFits, Indexed}
+use Rattle.records.specs.Cells.{cell_at, range_in, bare_in, SpanFits, Indexed}
 use Rattle.records.specs.Cover.{CellRange}
 use Rattle.records.proofs.RoomLaws.{chart-length, foot-at, number-there}
 use Rattle.records.proofs.TableLaws.{number-cell}
 use Rattle.steps.specs.declared.element.Element.{Element}
 use Rattle.steps.specs.declared.element.Elements.{Elements}
 use Rattle.steps.specs.Fits.{RuleFits}
-use Rattle.steps.specs.Candidates.{meets, produces, ElementsFit}
+use Rattle.steps.specs.Candidates.{meets, produces, ElementFits, ElementsFit}
 use Rattle.steps.proofs.StepLaws.{concat_map-counted, added_none, added-as, foot-fits}
 
 -- A take has one record, from the first place, if there is a place.
@@ -45,14 +45,11 @@ module _ (A i j p x : ℕ) (φ : Foot) (from to : ℕ) where
       let e : to - from ≡ suc (to - from - 1) = omega arith in
       ap (λ (m : ℕ). taken_from A i j p x φ (counted from m)) e
 
--- The table read at a cell: the positions of the cell's records and of its bare item, none of them past the base.
+-- The table read at a cell: the positions of the cell's records, none of them past the base, and of its bare item.
 module _ {n N : ℕ} (chart : List ℕ) (base : ℕ) {cells : List ℕ} (t : Indexed n N (chart_in chart base) cells) (at : ℕ) {R : Range}
     (r : R ≡ range_in cells at) where
   pub to_below : R.to ≤ base
   to_below = subst (λ (R : Range). R.to ≤ base) (sym r) (omega (arith, t.to_within at, chart-length chart base))
-
-  pub bare-below : number_of R.bare ≤ base
-  bare-below = subst (λ (R : Range). number_of R.bare ≤ base) (sym r) (omega (arith, t.bare_within at, chart-length chart base))
 
 module _ {n N : ℕ} (chart : List ℕ) (base : ℕ) {cells : List ℕ} (t : Indexed n N (chart_in chart base) cells) {B p q : ℕ}
     (s : SpanFits n N B p q) {at : ℕ} (e : at ≡ cell_at N B p q) {R : Range} (r : R ≡ range_in cells at) where
@@ -71,6 +68,10 @@ module _ {n N : ℕ} (chart : List ℕ) (base : ℕ) {cells : List ℕ} (t : Ind
   range-bares =
       subst (λ (R : Range). bare_places (chart_in chart base) B p q ≡ bare_in R.bare) (sym read-range)
       (t.bares B p q s.0 s.1 s.2)
+
+-- The cell of an element: that it lies within the line is told by its span.
+pub element-span : (cell : OpenCell) (x : Element) → ElementFits cell x → SpanFits cell.words cell.symbols x.symbol x.span.from x.span.to
+element-span cell x (a, e) = (a, x.span.some, omega (arith, x.span.inside, e))
 
 -- A foot with an index has parts that fit, and the eighth part of its number is the place of its cell.
 foot-known : (γ B p q : ℕ) → 1 ≤ γ → as_foot γ B p q ≡ foot γ B p q
@@ -180,7 +181,7 @@ module _ (f : ℕ → List Record) {l : List ℕ} {o : Option ℕ} (t : l ≡ ba
 -- A production by its shape: no record from a word or under another left side, and else those of the two elements that meet at k: the
 -- side before k and the dependent after it, or the other way round. Where the production fits, they do.
 abbrev Over : Element → ℕ → ℕ → ℕ → Type 0
-Over x symbol from to = (x.symbol ≡ symbol) × (x.from ≡ from) × (x.to ≡ to)
+Over x symbol from to = (x.symbol ≡ symbol) × (x.span.from ≡ from) × (x.span.to ≡ to)
 
 module _ (b : List Record) (cell : OpenCell) (k p : ℕ) {rule : Production} where
   pub by-word : {left word : ℕ} → rule ≡ Word left word → [] ≡ produces cell k p rule b
@@ -202,15 +203,15 @@ module _ (b : List Record) (cell : OpenCell) (k p : ℕ) {rule : Production} whe
           → meets cell p m b ≡ produces cell k p rule b
       last-same e d (s, t, u) (v, w, z) = rw (met, e, eq-eqb left cell.left d, by_rule, s, t, u, v, w, z)
 
-module _ (cell : OpenCell) (k : ℕ) (rule : Production) (fits : RuleFits cell.symbols (rule_from rule)) (l : cell.from < k) (u : k < cell.to)
-    (w : cell.to ≤ cell.words) {left side D : ℕ} {a : Action} {x y : Element} {m : Elements}
-    (met : m ≡ record { side = x; action = a; dependent = y }) where
-  pub first_fits : rule ≡ SideFirst left a side D → Over x side cell.from k → Over y D k cell.to → ElementsFit cell m
-  first_fits e s d =
+module _ (cell : OpenCell) (rule : Production) (fits : RuleFits cell.symbols (rule_from rule)) {left side D : ℕ} {a : Action} {x y : Element}
+    {m : Elements} (met : m ≡ record { side = x; action = a; dependent = y }) (s : x.symbol ≡ side) (d : y.symbol ≡ D)
+    (v : x.span.words ≡ cell.words) (w : y.span.words ≡ cell.words) where
+  pub first_fits : rule ≡ SideFirst left a side D → ElementsFit cell m
+  first_fits e =
       let (_, f, g, h, _) = subst (λ (r : Production). RuleFits cell.symbols (rule_from r)) e fits in
-      rw met (record { action = f; side = (omega arith, omega arith, omega arith); dependent = (omega arith, omega arith, omega arith) })
+      rw met (record { action = f; side = (omega arith, v); dependent = (omega arith, w) })
 
-  pub last_fits : rule ≡ SideLast left a D side → Over x side k cell.to → Over y D cell.from k → ElementsFit cell m
-  last_fits e s d =
+  pub last_fits : rule ≡ SideLast left a D side → ElementsFit cell m
+  last_fits e =
       let (_, f, _, h, g) = subst (λ (r : Production). RuleFits cell.symbols (rule_from r)) e fits in
-      rw met (record { action = f; side = (omega arith, omega arith, omega arith); dependent = (omega arith, omega arith, omega arith) })
+      rw met (record { action = f; side = (omega arith, v); dependent = (omega arith, w) })

@@ -1,5 +1,5 @@
 -- The candidates of a step, as the model has them, in terms of the structs that the functions pass on. b is the chart when the cell was begun.
-use Rattle.std.specs.Prelude.{ℕ, List, [], ◌∷◌}
+use Rattle.std.specs.Prelude.{ℕ, ◌<◌, ◌≡◌, List, [], ◌∷◌}
 use Rattle.grammar.specs.Lists.{concat_map}
 use Rattle.grammar.specs.Items.{Foot}
 use Rattle.grammar.specs.ItemList.{item}
@@ -7,22 +7,18 @@ use Rattle.grammar.specs.Chart.{Record, recorded, nowhere}
 use Rattle.card.specs.Productions.{action_from, rule_from}
 use Rattle.card.specs.declared.Action.{Action}
 use Rattle.card.specs.declared.Production.{Production}
-use Rattle.chart_model.specs.Build.{foot_at, bare_places, taken_from, kept_from, continued, given_from, by_action, by_rule}
+use Rattle.chart_model.specs.Build.{foot_at, bare_places, taken_from, continued, given_from, by_action, by_rule}
 use Rattle.records.specs.declared.record.OpenCell.{OpenCell}
 use Rattle.records.specs.declared.record.Origin.{Origin}
-use Rattle.records.specs.Cells.{SpanFits}
 use Rattle.steps.specs.declared.element.Element.{Element}
 use Rattle.steps.specs.declared.element.Elements.{Elements}
 use Rattle.steps.specs.declared.element.Side.{Side}
 use Rattle.steps.specs.Fits.{ActionFits}
 
--- Of one dependent: a take's, if the range has a record; a keep's; a give's with one continuation; and a give's with all.
+-- Of one dependent: a take's, if the range has a record; a give's with one continuation; and a give's with all.
 abbrev pub takes : OpenCell → Side → Foot → List ℕ → List Record
 takes cell side φ dependents =
     taken_from cell.left cell.from cell.to side.production side.position φ dependents
-
-abbrev pub keeps : OpenCell → Side → List Record → ℕ → List Record
-keeps cell side b y = kept_from b cell.left cell.from cell.to side.production side.position y
 
 abbrev pub continues : OpenCell → Side → ℕ → List Record → ℕ → List Record
 continues cell side y b z = continued b cell.left cell.from cell.to side.production side.position y z
@@ -44,19 +40,19 @@ continued_origin side y z = record { production = side.production; side = side.p
 -- Of a dependent's cell; of the two elements; and of a production at a split.
 abbrev pub acts : OpenCell → Side → Action → Element → List Record → List Record
 acts cell side a d b =
-    by_action b (action_from a) d.symbol d.from d.to cell.left cell.from cell.to side.production side.position
+    by_action b (action_from a) d.symbol d.span.from d.span.to cell.left cell.from cell.to side.production side.position
 
 abbrev pub meets : OpenCell → ℕ → Elements → List Record → List Record
 meets cell p met b =
-    concat_map (by_action b (action_from met.action) met.dependent.symbol met.dependent.from met.dependent.to
-    cell.left cell.from cell.to p) (bare_places b met.side.symbol met.side.from met.side.to)
+    concat_map (by_action b (action_from met.action) met.dependent.symbol met.dependent.span.from met.dependent.span.to
+    cell.left cell.from cell.to p) (bare_places b met.side.symbol met.side.span.from met.side.span.to)
 
 abbrev pub produces : OpenCell → ℕ → ℕ → Production → List Record → List Record
 produces cell k p rule b = by_rule b cell.left cell.from k cell.to p (rule_from rule)
 
--- Elements that lie within the line.
+-- Elements of the card and of the line in hand; that they lie within that line is told by their spans.
 abbrev pub ElementFits : OpenCell → Element → Type 0
-ElementFits cell x = SpanFits cell.words cell.symbols x.symbol x.from x.to
+ElementFits cell x = (x.symbol < cell.symbols) × (x.span.words ≡ cell.words)
 
 pub record ElementsFit (cell : OpenCell) (met : Elements) : Type 0 where
   pub action : ActionFits (action_from met.action)

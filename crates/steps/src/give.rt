@@ -29,8 +29,8 @@ impl Reach for Continued {
     }
 }
 
-// Those of the dependent at y, if its index is the one to give. The cell of its foot is the eighth part of the foot's number; it is passed
-// over where the open cell covers it.
+// Those of the dependent at y, if its index is the one to give. The cell of its foot is the eighth part of the foot's number; its
+// records are the continuations.
 fn give_one(
     chart: &mut [u8],
     marks: &mut [u8],
@@ -50,15 +50,12 @@ fn give_one(
         return Some(count);
     }
     let number = records::record::number_at(chart, y) >> Card::INDICES_POWER;
-    if records::cells::is_covered(cells, cell.number, number) {
-        return Some(count);
-    }
-    let range = records::cells::range_of(cells, number);
+    // By `as`: a record has two bytes for a position, there is no `From`, and that it fits is proved.
     let reach = Continued {
         side,
         dependent: y as u16,
     };
-    take_over(chart, marks, cells, cell, reach, number, range, count)
+    take_over(chart, marks, cells, cell, reach, number, count)
 }
 
 // Those of every dependent of a range.

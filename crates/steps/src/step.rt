@@ -1,5 +1,6 @@
 // The deduction steps of one production over one split. In each contract the records that may be added are those of the model
 // (chart_model), made from the records that stood when the cell was begun.
+// Narrowed by `as`: positions and bounds. A record has two bytes or one for them, there is no `From`, and that they fit is proved.
 ghost use Rattle.std.specs.Prelude.{◌-◌, ◌<◌};
 ghost use Rattle.layout.specs.Bytes.{counted};
 ghost use Rattle.card.specs.Productions.{action_from, rule_from};
@@ -8,12 +9,15 @@ ghost use Rattle.records.specs.Filling.{begun_with, FootGiven, Adding, AddedTo, 
 ghost use Rattle.steps.specs.Fits.{ActionFits, RuleFits};
 ghost use Rattle.steps.specs.Candidates.{takes, acts, meets, produces, ElementFits, ElementsFit};
 
-use crate::element::{Element, Elements, Side, first_at, last_at};
+use crate::each::{Reach, take_over};
+use crate::element::{Element, Elements, Side};
+use crate::give::give_each;
+use crate::keep::Kept;
 use card::{Action, Card, Production};
 use records::cells::Range;
-use records::record::{Foot, NOWHERE, OpenCell, Origin};
+use records::record::{Foot, OpenCell};
 
-// Take: one dependent is enough, whatever it is. The number is the foot's.
+// Take: one dependent is enough, whatever it is. The record's origin is a keep's; the number is the foot's.
 fn take_one(
     chart: &mut [u8],
     marks: &mut [u8],
@@ -31,12 +35,7 @@ fn take_one(
     if range.to <= range.from {
         return Some(count);
     }
-    let origin = Origin {
-        production: side.production,
-        side: side.position,
-        dependent: range.from as u16,
-        continuation: NOWHERE,
-    };
+    let origin = Kept { side }.origin(range.from as u16);
     records::add::add(chart, marks, cell, foot, number, origin, count)
 }
 
@@ -55,29 +54,25 @@ fn by_action(
     ensures { AdvancedTo cell (acts cell side action dependent (begun_with cell chart.old))
         chart.old marks.old cells.old count chart.new marks.new cells.new result }
 {
-    let number = records::cells::cell_at(
-        cell.words,
-        cell.symbols,
-        dependent.symbol,
-        dependent.from,
-        dependent.to,
-    );
+    let number = dependent.number(cell);
+    // For a take and a give; take_over reads it again, once it has looked. Read in these two arms it cost 3 in 100 of a short line.
     let range = records::cells::range_of(cells, number);
     match action {
         Action::Take(g) => {
             let foot = Foot {
                 index: g,
-                symbol: dependent.symbol as u8,
-                from: dependent.from as u8,
-                to: dependent.to as u8,
+                symbol: dependent.symbol,
+                from: dependent.span.from as u8,
+                to: dependent.span.to as u8,
             };
             let foot_number = Card::MAX_INDICES * number + usize::from(g) - 1;
             take_one(chart, marks, cell, side, foot, foot_number, range, count)
         }
-        Action::Keep => crate::keep::keep_all(
-            chart, marks, cells, cell, side, number, range, count,
-        ),
-        Action::Give(g) => crate::give::give_each(chart, marks, cells, cell, side, g, range, count),
+        Action::Keep => {
+            let kept = Kept { side };
+            take_over(chart, marks, cells, cell, kept, number, count)
+        }
+        Action::Give(g) => give_each(chart, marks, cells, cell, side, g, range, count),
     }
 }
 
@@ -100,14 +95,7 @@ fn with_side(
         action,
         dependent,
     } = met;
-    let number = records::cells::cell_at(
-        cell.words,
-        cell.symbols,
-        beside.symbol,
-        beside.from,
-        beside.to,
-    );
-    let range = records::cells::range_of(cells, number);
+    let range = records::cells::range_of(cells, beside.number(cell));
     let Some(bare) = range.bare else {
         return Some(count);
     };
@@ -123,7 +111,7 @@ pub fn by_production(
     marks: &mut [u8],
     cells: &mut [u16],
     cell: OpenCell,
-    k: u8,
+    k: usize,
     p: u8,
     rule: Production,
     count: usize,
@@ -132,6 +120,8 @@ pub fn by_production(
     ensures { AdvancedTo cell (produces cell k p rule (begun_with cell chart.old))
         chart.old marks.old cells.old count chart.new marks.new cells.new result }
 {
+    let first = cell.span().before(k);
+    let last = cell.span().after(k);
     let met = match rule {
         Production::SideFirst {
             left,
@@ -139,9 +129,9 @@ pub fn by_production(
             side,
             dependent,
         } if left == cell.left => Elements {
-            side: first_at(cell, k, side),
+            side: Element::over(first, side),
             action,
-            dependent: last_at(cell, k, dependent),
+            dependent: Element::over(last, dependent),
         },
         Production::SideLast {
             left,
@@ -149,9 +139,9 @@ pub fn by_production(
             dependent,
             side,
         } if left == cell.left => Elements {
-            side: last_at(cell, k, side),
+            side: Element::over(last, side),
             action,
-            dependent: first_at(cell, k, dependent),
+            dependent: Element::over(first, dependent),
         },
         _ => return Some(count),
     };

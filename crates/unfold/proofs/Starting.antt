@@ -1,19 +1,15 @@
--- The item of the start is told by four bytes, for γ = 0 is no foot; and a search that finds none among the records has refuted that it
--- stands there.
-use Prim.Native.Nat.{ℕ, ◌+◌, ◌*◌, ◌-◌, ◌<◌}
+-- What the item of the start says of its record; and a search that finds none among the records has refuted that it stands there.
+use Prim.Native.Nat.{ℕ, ◌-◌, ◌<◌}
 use native.Mathlib.Omega.{arith}
-use native.Mathlib.Decide.{ℕ_discrete}
 use mathlib.Core.Path.{◌≡◌, refl, sym, ◌∙◌, ap, subst}
 use mathlib.Core.Bool.{true, false}
 use mathlib.Core.List.{List, map, Memᴰ}
-use borrow.Author.Tests.{eq-eqb, ne_eqb}
-use Rattle.grammar.specs.Items.{bare, foot}
+use Rattle.grammar.specs.Items.{bare}
 use Rattle.grammar.specs.ItemList.{Item, item}
 use Rattle.grammar.specs.Chart.{item_of}
-use Rattle.layout.specs.Bytes.{byte_at}
 use Rattle.grammar.proofs.ListLaws.{in_map, map-in, in-stands, stands-in}
 use Rattle.grammar.proofs.ItemListExact.{among-true, among-mem}
-use Rattle.layout.specs.Records.{record_at, chart_in, as_foot, foot_there}
+use Rattle.layout.specs.Records.{record_at, chart_in, foot_there}
 use Rattle.layout.proofs.TestLaws.{unless-true}
 use Rattle.layout.proofs.CountedLaws.{table-stands, stands-below, stands-there}
 use Rattle.std.specs.Prelude.{Option, Some, None, IfSome}
@@ -22,37 +18,18 @@ use Rattle.std.specs.Iterator.Runs.{Run}
 use Rattle.std.specs.declared.ops.Range.{Range}
 use Rattle.std.proofs.iter.runs.Sources.{nat_range_steps_back, range_runs_back}
 use Rattle.unfold.specs.Unfold.{start_stands, Found}
-use Rattle.unfold.specs.Spine.{name_at, from_at, to_at, IsStart}
+use Rattle.unfold.specs.Spine.{from_at, to_at, IsStart}
 
-foot-bare : (γ B p q : ℕ) → as_foot γ B p q ≡ bare → γ ≡ 0
-foot-bare γ B p q e = elim (ℕ_discrete γ 0) [
-  | yes h ↦ h
-  | no ne ↦ let d : foot γ B p q ≡ bare = rw (ne_eqb γ 0 ne) at e in let z : ◌≡◌ {A = ℕ} 0 1 = cc in absurd (omega arith)
-]
+-- Where the item of the start begins and ends, and that it has no foot.
+module _ (chart : List ℕ) (m n : ℕ) (e : item_of (record_at chart m) ≡ item 0 0 n bare) where
+  pub start-from : from_at chart m ≡ 0
+  start-from = cc
 
-bare-foot : (γ B p q : ℕ) → γ ≡ 0 → as_foot γ B p q ≡ bare
-bare-foot γ B p q e = rw (eq-eqb γ 0 e)
+  pub start-to : to_at chart m ≡ n
+  start-to = cc
 
-module _ (chart : List ℕ) (m n : ℕ) where
-  pub start-there : name_at chart m ≡ 0 → byte_at chart (16 * m + 1) ≡ 0 → from_at chart m ≡ 0 → to_at chart m ≡ n
-      → item_of (record_at chart m) ≡ item 0 0 n bare
-  start-there a γ i j = let φ : foot_there chart m ≡ bare = bare-foot _ _ _ _ γ in cc
-
-  module _ (e : item_of (record_at chart m) ≡ item 0 0 n bare) where
-    pub start-name : name_at chart m ≡ 0
-    start-name = cc
-
-    pub start-index : byte_at chart (16 * m + 1) ≡ 0
-    start-index = let φ : foot_there chart m ≡ bare = cc in foot-bare _ _ _ _ φ
-
-    pub start-from : from_at chart m ≡ 0
-    start-from = cc
-
-    pub start-to : to_at chart m ≡ n
-    start-to = cc
-
-    pub start-foot : foot_there chart m ≡ bare
-    start-foot = cc
+  pub start-foot : foot_there chart m ≡ bare
+  start-foot = cc
 
 -- What the search answers: the item stands among the records where one of them has it, and does not where none has.
 module _ (chart : List ℕ) (count n : ℕ) where

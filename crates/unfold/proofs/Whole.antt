@@ -28,11 +28,11 @@ start-ready {chart = chart} {count = count} {m = m} {n = n} held inside e =
       pends = subst (λ (φ : Foot). Pends (chart_in chart count) φ [] []) (sym (start-foot chart m n e)) nothing_pends;
     }
 
-pub start-asked : {source : Source} {stack plan : List ℕ} {count m n : ℕ} → Unfoldable source.card.bytes.now source.chart.now count m n plan
+pub start-asked : {source : Source} {stack plan : List ℕ} {m : ℕ} → Unfoldable source.card.bytes.now source.chart.now m plan
     → length stack ≡ 24 → Asked source stack (alone m 0) plan 0
-start-asked {source} {m = m} {n = n} u full =
-    let from = start-from source.chart.now m n u.whole in
-    let to = start-to source.chart.now m n u.whole in
+start-asked {source} {m = m} u full =
+    let from = start-from source.chart.now m u.words u.whole in
+    let to = start-to source.chart.now m u.words u.whole in
     record {
       at = u.at;
       count = _;

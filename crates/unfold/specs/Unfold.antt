@@ -8,7 +8,7 @@ use Rattle.grammar.specs.ItemList.{item, among}
 use Rattle.grammar.specs.Chart.{Record, Justified, item_of}
 use Rattle.grammar.specs.Plan.{PlanStep}
 use Rattle.grammar.specs.Ways.{Way, Recorded}
-use Rattle.layout.specs.Card.{grammar_of, card_number}
+use Rattle.layout.specs.Card.{grammar_of}
 use Rattle.layout.specs.Records.{record_at, chart_in}
 use Rattle.layout.specs.Steps.{plan_bytes, plan_steps, plan_room}
 
@@ -18,16 +18,17 @@ pub record Held (card : List ℕ) (at : ℕ → ℕ → Bool) (chart : List ℕ)
   pub justified : (m : ℕ) (e : Record) → Stands (chart_in chart count) m e
       → Justified (grammar_of card) (Holds at) (chart_in chart count) m e
 
--- What unfolding asks: an accepted card and such a room, for some test, with the item of the start over n words at position m, and
--- room for its plan.
-pub record Unfoldable (card chart : List ℕ) (count m n : ℕ) (plan : List ℕ) : Type 0 where
-  pub accepted : card_number card ≡ 0
+-- What unfolding asks: such a room, for some test and some count of records, with the item of the start over all words of a line at position
+-- m, and room for its plan. That the card is accepted is `Card`'s own.
+pub record Unfoldable (card chart : List ℕ) (m : ℕ) (plan : List ℕ) : Type 0 where
   pub at : ℕ → ℕ → Bool
+  pub count : ℕ
+  pub words : ℕ
   pub held : Held card at chart count
   pub inside : m < count
-  pub whole : item_of (record_at chart m) ≡ item 0 0 n bare
-  pub room : plan_room n ≤ length plan
-  pub short : n ≤ 24
+  pub whole : item_of (record_at chart m) ≡ item 0 0 words bare
+  pub room : plan_room words ≤ length plan
+  pub short : words ≤ 24
 
 -- The plan that goes down from the record at m, with what is pending, by the recorded steps. Whether it is the first plan depends on which
 -- steps the chart records: grammar/proofs/WaysPlans.antt.
@@ -41,9 +42,9 @@ pub record Planned (card : List ℕ) (at : ℕ → ℕ → Bool) (chart : List �
   pub way : RecordedWay card at chart count m [] steps
   pub written : new ≡ plan_bytes steps ++ drop (4 * length steps) old
 
--- And it did so for every test for which the room's records are justified.
-abbrev pub Plans : List ℕ → List ℕ → ℕ → ℕ → List ℕ → List ℕ → Type 0
-Plans card chart count m old new = (at : ℕ → ℕ → Bool) → Held card at chart count → Planned card at chart count m old new
+-- And it did so for every test and every count for which the room's records are justified, that at m among them.
+abbrev pub Plans : List ℕ → List ℕ → ℕ → List ℕ → List ℕ → Type 0
+Plans card chart m old new = (at : ℕ → ℕ → Bool) (count : ℕ) → Held card at chart count → m < count → Planned card at chart count m old new
 
 -- Document 01's number for each answer of the search for the start, and the steps of a plan of n words that come with it.
 abbrev pub start_number : Option ℕ → ℕ

@@ -1,5 +1,5 @@
 // A plan read off a chart (document 01, "The plan"): a side is unfolded with nothing pending, a spine with its pending continuations,
-// and each unfolding leads to the other, over shorter and shorter stretches.
+// and each unfolding leads to the other, over shorter and shorter stretches. Two functions, since document 01 asks for two that call each other.
 #![tactic(auto)]
 
 ghost use Rattle.std.specs.Prelude.{◌+◌, ◌*◌, ◌≤◌, [], length};
@@ -11,7 +11,14 @@ ghost use Rattle.unfold.specs.Spine.{IsStart, NodeOf, alone, Stays, Fits, GoesOn
 use card::{Action, Card, Production};
 use octets::read16;
 
-// What a record says of its step: the production, the stretch and the positions of the antecedents.
+// A record takes so many bytes. Written here too, since a chart is read here as bytes, without the crate that writes its records.
+const RECORD: usize = 16;
+
+// A stack has a place for each word of the longest line. Written here, since of `places`, which has the limit, nothing else is wanted.
+const MOST_WORDS: usize = 24;
+
+// What a record says of its step: the production, the stretch and the positions of the antecedents, as its bytes have them: one that is none is
+// not looked at.
 #[derive(Clone, Copy)]
 pub struct Node {
     pub production: u8,
@@ -27,7 +34,7 @@ fn node_at(chart: &[u8], m: usize) -> Node
     requires { 16 * m + 16 ≤ length chart.now }
     ensures { NodeOf chart.now m result }
 {
-    let at = 16 * m;
+    let at = RECORD * m;
     Node {
         production: chart[at + 7],
         from: chart[at + 2],
@@ -39,7 +46,7 @@ fn node_at(chart: &[u8], m: usize) -> Node
 }
 
 // A spine to unfold: the position of its record, and where the positions of its pending continuations stand, stack[base..depth],
-// the last one first to come.
+// the last one first to come. The stack is an array that is lent, since there is no heap; its depth goes by value, since each unfolding comes back to its own.
 #[derive(Clone, Copy)]
 pub struct Rest {
     pub position: usize,
@@ -49,7 +56,7 @@ pub struct Rest {
 
 // Where a spine goes on: a take goes on with the continuation that was added last, which is there, and not with its recorded
 // dependent; a give adds its own.
-fn onward(a: Action, node: Node, stack: &mut [u16; 24], whole: Rest) -> Rest
+fn onward(a: Action, node: Node, stack: &mut [u16; MOST_WORDS], whole: Rest) -> Rest
     requires { Fits a node stack.old whole }
     ensures { GoesOn a node stack.old whole stack.new result }
 {
@@ -69,6 +76,7 @@ fn onward(a: Action, node: Node, stack: &mut [u16; 24], whole: Rest) -> Rest
             ..whole
         },
         Action::Give(_) => {
+            // By `as`: it was read from two bytes, and `try_from` would test that once more.
             stack[depth] = node.continuation as u16;
             Rest {
                 position: node.dependent,
@@ -120,7 +128,13 @@ impl Source<'_> {
 
     // Writes the step of a record, and says what is left of it. Both unfoldings do this first.
     #[inline(always)]
-    fn open_record(&self, plan: &mut [u8], stack: &mut [u16; 24], whole: Rest, at: usize) -> Left
+    fn open_record(
+        &self,
+        plan: &mut [u8],
+        stack: &mut [u16; MOST_WORDS],
+        whole: Rest,
+        at: usize,
+    ) -> Left
         requires { Asked self.now stack.old whole plan.old at }
         ensures { Opens self.now stack.old whole stack.new plan.old at plan.new result }
     {
@@ -153,7 +167,7 @@ impl Source<'_> {
     fn side(
         &self,
         plan: &mut [u8],
-        stack: &mut [u16; 24],
+        stack: &mut [u16; MOST_WORDS],
         m: usize,
         depth: usize,
         at: usize,
@@ -184,7 +198,7 @@ impl Source<'_> {
     // A record with what is pending for it. A side that comes first has its place on the stack above what is pending; one that comes
     // last finds nothing pending any more. A stack is less deep than its stretch is long, so a place for each word of a line is enough.
     #[cycle(side_spine)]
-    fn spine(&self, plan: &mut [u8], stack: &mut [u16; 24], whole: Rest, at: usize) -> usize
+    fn spine(&self, plan: &mut [u8], stack: &mut [u16; MOST_WORDS], whole: Rest, at: usize) -> usize
         requires { Asked self.now stack.old whole plan.old at }
         ensures unfolds_spine { UnfoldsSpine self.now stack.old whole plan.old at plan.new result }
         ensures stays { Stays whole.base stack.old stack.new }
@@ -217,16 +231,16 @@ fn is_start(chart: &[u8], m: usize, n: usize) -> bool
     requires { 16 * m + 16 ≤ length chart.now }
     ensures { IsStart chart.now m n result }
 {
-    let at = 16 * m;
+    let at = RECORD * m;
     chart[at] == 0 && chart[at + 1] == 0 && chart[at + 2] == 0 && usize::from(chart[at + 3]) == n
 }
 
-// The plan of the item of the start over n words, which stands at position m.
-pub fn unfold(card: Card, chart: &[u8], count: usize, m: usize, n: usize, plan: &mut [u8])
-    requires { Unfoldable card.bytes.now chart.now count m n plan.old }
-    ensures { Plans card.entry.bytes.now chart.now count m plan.old plan.new }
+// The plan of the item of the start over all words, which stands at position m.
+pub fn unfold(card: Card, chart: &[u8], m: usize, plan: &mut [u8])
+    requires { Unfoldable card.bytes.now chart.now m plan.old }
+    ensures { Plans card.entry.bytes.now chart.now m plan.old plan.new }
 {
     let source = Source { card, chart };
-    let mut stack = [0u16; 24];
+    let mut stack = [0u16; MOST_WORDS];
     source.side(plan, &mut stack, m, 0, 0);
 }

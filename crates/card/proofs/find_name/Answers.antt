@@ -23,4 +23,5 @@ returns-clause-inside c =
     let words = rw checked.same at c.words.ensures.counts in
     let known = name-known a.bytes.now a.word 0 checked.number refl words c.if-words-word.false in
     let place = rw checked.same at c.entry_at-at.ensures in
-    spelling-inside a.bytes.now a.word c.entry_at-at.result c.from.result (sym known) place (cc (c.from.ensures, place))
+    let inside = spelling-inside a.bytes.now a.word c.entry_at-at.result c.from.result (sym known) place (cc (c.from.ensures, place)) in
+    omega (arith, inside)

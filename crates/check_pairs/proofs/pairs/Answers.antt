@@ -18,8 +18,8 @@ returns-in_err-check_line c =
     rw (is, came)
     (pairs-refused a.card.now a.line.now a.plan.now a.room.now _ (rw c.in_ok-accepted.ensures.same at c.in_err-check_line.ensures))
 
-pub pairs_of-requires : goal.pairs_of-requires
-pairs_of-requires c = (c.args.line.now, sym c.in_ok-check_line.ensures)
+pub invariant_of-passed : goal.invariant_of-passed
+invariant_of-passed c = record { checked = ∣ (c.args.line.now, sym c.in_ok-check_line.ensures) ∣₁ }
 
 pub returns : goal.returns
 returns c =

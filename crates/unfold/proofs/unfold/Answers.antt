@@ -12,4 +12,4 @@ side-requires c =
 pub returns : goal.returns
 returns c =
     let u = c.requires in
-    λ at held. start-planned (c.side.ensures.unfolds at _ [] (start-ready held u.inside u.whole))
+    λ at count held inside. start-planned (c.side.ensures.unfolds at count [] (start-ready held inside u.whole))

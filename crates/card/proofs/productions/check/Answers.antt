@@ -4,51 +4,34 @@ use mathlib.Core.Path.{sym}
 use Prim.Native.Nat.{◌<◌}
 use native.Mathlib.Omega.{arith}
 use mathlib.Core.Path.{◌≡◌, ◌∙◌}
-use Rattle.layout.specs.Card.{production_at}
 use Rattle.layout.proofs.Accepting.{counts-within}
-use Rattle.card.proofs.Accepted.{view-production}
 use Rattle.card.proofs.FieldLaws.{fields-small}
 use Rattle.card.proofs.NameLaws.{gathered_none, gathered-more, gathered-all, one-unfit}
-use Rattle.card.proofs.productions.check.Goals.{After-production_at, Else-not-production_fits}
+use Rattle.card.proofs.productions.check.Goals.{Else-not-production_fits}
 use Rattle.card.proofs.productions.check.Goals as goal
 
 pub loop-m-init : goal.loop-m-init
 loop-m-init c = gathered_none _
 
--- The place that is read is the production's.
-place : (c : After-production_at) → c.production_at.result ≡ production_at c.args.card.now c.loop-m.m
-place c = c.production_at.ensures ∙ view-production c.requires.0 c.loop-m.m
-
-pub production_at-requires : goal.production_at-requires
-production_at-requires c =
-    let view = c.requires.0 in
-    (view.short_header, view.few_words, omega (arith, view.few_productions))
-
-pub at-f-requires : goal.at-f-requires
-at-f-requires c =
-    omega (arith, place c, c.requires.2)
-
 pub returns-then-not-production_fits : goal.returns-then-not-production_fits
 returns-then-not-production_fits c =
-    one-unfit c.loop-m.m (omega arith) (place (goal.at.returns-then-not-production_fits c).After-production_at) c.at-f.ensures
+    one-unfit c.loop-m.m (omega arith) c.production_at.ensures c.at-f.ensures
     (sym c.production_fits.ensures ∙ c.if-not-production_fits.true)
 
 -- Its names are small enough for a set.
 small : (c : Else-not-production_fits) → let f = c.at-f.result in
     (f.a < 32) × ((f.kind ≡ 0 → ⊥) → (f.b < 32) × (f.c < 32))
 small c =
-    let card = c.args.card.now in
-    fields-small card (counts-within card c.requires.1).few_nonterminals c.at-f.result
+    let card = c.args.view.bytes.now in
+    fields-small card (counts-within card c.requires.0).few_nonterminals c.at-f.result
     (sym c.production_fits.ensures ∙ c.if-not-production_fits.false)
 
 pub with-names-requires : goal.with-names-requires
 with-names-requires c = small c
 
 pub loop-m-preserved : goal.loop-m-preserved
-loop-m-preserved c = gathered-more c.loop-m.m c.loop-m.invariant (place (goal.at.loop-m-preserved c).After-production_at) c.at-f.ensures
+loop-m-preserved c = gathered-more c.loop-m.m c.loop-m.invariant c.production_at.ensures c.at-f.ensures
     (sym c.production_fits.ensures ∙ c.if-not-production_fits.false) c.with-names.ensures
 
 pub returns : goal.returns
-returns c =
-    let view = c.requires.0 in
-    gathered-all c.loop-m.invariant (omega (arith, view.productions))
+returns c = gathered-all c.loop-m.invariant (omega (arith, c.args.view.counts_productions))

@@ -19,17 +19,17 @@ use Rattle.chart.proofs.build.close_all.Goals as goal
 -- One end more, or an item that did not fit.
 module _ (c : After-close_end) where
   abbrev turn : ℕ → Option (List Record) → Option (List Record)
-  turn = close_end c.args.sizes.room (grammar_of c.args.card.bytes.now) (word_test c.args.words.now.places) c.args.sizes.symbols
+  turn = close_end c.args.sizes.room (grammar_of c.args.input.card.bytes.now) (word_test c.args.input.words.now.places) c.args.sizes.symbols
 
   abbrev So : ℕ → Answer ℕ → Type 0
-  So m after = FilledTo c.args.card.bytes.now c.args.sizes (fold_up turn m (some [])) c.args.chart.now c.close_end.new.chart
+  So m after = FilledTo c.args.input.card.bytes.now c.args.sizes (fold_up turn m (some [])) c.args.chart.now c.close_end.new.chart
       c.close_end.new.marks c.close_end.new.cells c.close_end.new.sets after
 
   filled : So (c.loop-e.e + 1) c.close_end.result
   filled =
       let a = c.args in
       fold-then turn c.loop-e.e (some []) c.loop-e.invariant
-      (end-grows a.sizes.room (grammar_of a.card.bytes.now) (word_test a.words.now.places) a.sizes.symbols) c.close_end.ensures
+      (end-grows a.sizes.room (grammar_of a.input.card.bytes.now) (word_test a.input.words.now.places) a.sizes.symbols) c.close_end.ensures
 
 pub loop-e-init : goal.loop-e-init
 loop-e-init c = filled_none c.requires.between refl
@@ -38,9 +38,9 @@ pub close_end-requires : goal.close_end-requires
 close_end-requires c =
     let l = c.loop-e in
     let a = c.args in (
-      record { accepted = c.requires.accepted; names = c.requires.names; between = l.invariant.ready },
+      record { names = c.requires.names; between = l.invariant.ready },
       omega arith,
-      λ A i. fresh-end a.sizes.room (grammar_of a.card.bytes.now) (word_test a.words.now.places) a.sizes.symbols l.e A i (sym l.invariant.model),
+      λ A i. fresh-end a.sizes.room (grammar_of a.input.card.bytes.now) (word_test a.input.words.now.places) a.sizes.symbols l.e A i (sym l.invariant.model),
     )
 
 pub returns-in_err-total : goal.returns-in_err-total
@@ -50,7 +50,7 @@ returns-in_err-total c =
     rw c.from_residual.ensures
     (closed_all None
     (fold_over (turn k) c.loop-e.e a.sizes.words (some [])
-    (end_none a.sizes.room (grammar_of a.card.bytes.now) (word_test a.words.now.places) a.sizes.symbols)
+    (end_none a.sizes.room (grammar_of a.input.card.bytes.now) (word_test a.input.words.now.places) a.sizes.symbols)
     (subst (So k (c.loop-e.e + 1)) c.in_err-total.was (filled k)) (omega arith)))
 
 pub loop-e-preserved : goal.loop-e-preserved
@@ -63,5 +63,5 @@ returns c =
     let a = c.args in
     let l = c.loop-e in
     closed_all _
-    (fold_at (close_end a.sizes.room (grammar_of a.card.bytes.now) (word_test a.words.now.places) a.sizes.symbols) l.e a.sizes.words (some [])
+    (fold_at (close_end a.sizes.room (grammar_of a.input.card.bytes.now) (word_test a.input.words.now.places) a.sizes.symbols) l.e a.sizes.words (some [])
     (omega arith) l.invariant)

@@ -9,5 +9,5 @@ use Rattle.chart.proofs.build.close_all.Given as goal
 
 abbrev pub invariant-loop-e : goal.invariant-loop-e
 invariant-loop-e l =
-    FilledTo l.card.bytes.now l.sizes (fold_up (close_end l.sizes.room (grammar_of l.card.bytes.now) (word_test l.words.places) l.sizes.symbols) l.e (some []))
+    FilledTo l.input.card.bytes.now l.sizes (fold_up (close_end l.sizes.room (grammar_of l.input.card.bytes.now) (word_test l.input.words.now.places) l.sizes.symbols) l.e (some []))
     l.initial.chart l.chart l.marks l.cells l.sets (Some l.total)

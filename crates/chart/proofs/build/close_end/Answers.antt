@@ -20,13 +20,13 @@ use Rattle.chart.proofs.build.close_end.Goals as goal
 -- One span more, or an item that did not fit.
 module _ (c : After-close_span) where
   abbrev turn : ℕ → Option (List Record) → Option (List Record)
-  turn = close_back c.args.sizes.room (grammar_of c.args.card.bytes.now) (word_test c.args.words.now.places) c.args.sizes.symbols c.args.e
+  turn = close_back c.args.sizes.room (grammar_of c.args.input.card.bytes.now) (word_test c.args.input.words.now.places) c.args.sizes.symbols c.args.e
 
   abbrev before : Option (List Record)
   before = some (chart_in c.args.chart.now c.args.count)
 
   abbrev So : ℕ → Answer ℕ → Type 0
-  So m after = FilledTo c.args.card.bytes.now c.args.sizes (fold_up turn m before) c.args.chart.now c.close_span.new.chart
+  So m after = FilledTo c.args.input.card.bytes.now c.args.sizes (fold_up turn m before) c.args.chart.now c.close_span.new.chart
       c.close_span.new.marks c.close_span.new.cells c.close_span.new.sets after
 
   filled : So (c.args.e - c.loop-i.i + 1) c.close_span.result
@@ -34,8 +34,8 @@ module _ (c : After-close_span) where
       let a = c.args in
       let l = c.loop-i in
       fold-then turn (a.e - l.i) before l.invariant
-      (span-grows a.sizes.room (grammar_of a.card.bytes.now) (word_test a.words.now.places) a.sizes.symbols a.e)
-      (span-turn (word_test a.words.now.places) a.e l.i l.total (omega arith) c.close_span.ensures)
+      (span-grows a.sizes.room (grammar_of a.input.card.bytes.now) (word_test a.input.words.now.places) a.sizes.symbols a.e)
+      (span-turn (word_test a.input.words.now.places) a.e l.i l.total (omega arith) c.close_span.ensures)
 
   -- The next is the span from i - 1, or none is left.
   next : {after : Answer ℕ} (m : ℕ) → m ≡ c.args.e - c.loop-i.i + 1 → c.close_span.result ≡ after → So m after
@@ -49,10 +49,9 @@ close_span-requires c =
     let p = c.requires in
     let a = c.args in
     let l = c.loop-i in (
-      record { accepted = p.0.accepted; names = p.0.names; between = l.invariant.ready },
-      omega arith,
-      omega arith,
-      λ A. fresh-span (chart_in a.chart.now a.count) a.sizes.room (grammar_of a.card.bytes.now) (word_test a.words.now.places)
+      record { names = p.0.names; between = l.invariant.ready },
+      refl,
+      λ A. fresh-span (chart_in a.chart.now a.count) a.sizes.room (grammar_of a.input.card.bytes.now) (word_test a.input.words.now.places)
           a.sizes.symbols a.e l.i A (omega arith) p.2 (sym l.invariant.model),
     )
 
@@ -62,7 +61,7 @@ returns-in_err-total c =
     let a = c.args in
     rw c.from_residual.ensures
     (fold_over (turn k) (a.e - c.loop-i.i) (suc a.e) (before k)
-    (λ m. span_none a.sizes.room (grammar_of a.card.bytes.now) (word_test a.words.now.places) a.sizes.symbols (suc m) (a.e - m))
+    (λ m. span_none a.sizes.room (grammar_of a.input.card.bytes.now) (word_test a.input.words.now.places) a.sizes.symbols (suc m) (a.e - m))
     (subst (So k (a.e - c.loop-i.i + 1)) c.in_err-total.was (filled k)) (omega arith))
 
 pub loop-i-preserved : goal.loop-i-preserved

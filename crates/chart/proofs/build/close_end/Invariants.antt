@@ -10,6 +10,6 @@ use Rattle.chart.proofs.build.close_end.Given as goal
 
 abbrev pub invariant-loop-i : goal.invariant-loop-i
 invariant-loop-i l =
-    FilledTo l.card.bytes.now l.sizes
-    (fold_up (close_back l.sizes.room (grammar_of l.card.bytes.now) (word_test l.words.places) l.sizes.symbols l.e) (l.e - l.i) (some (chart_in l.initial.chart l.count)))
+    FilledTo l.input.card.bytes.now l.sizes
+    (fold_up (close_back l.sizes.room (grammar_of l.input.card.bytes.now) (word_test l.input.words.now.places) l.sizes.symbols l.e) (l.e - l.i) (some (chart_in l.initial.chart l.count)))
     l.initial.chart l.chart l.marks l.cells l.sets (Some l.total)

@@ -18,38 +18,37 @@ use Rattle.chart.proofs.build.close_span.Goals.{After-span_set-set, After-fill_c
 use Rattle.chart.proofs.build.close_span.Goals as goal
 
 -- Once the span's set is found.
-ready : (c : After-span_set-set) → Ready c.args.card.bytes.now c.args.sizes c.args.chart.now c.args.marks.now c.args.cells.now c.span_set-set.new.sets c.args.count
+ready : (c : After-span_set-set) → Ready c.args.input.card.bytes.now c.args.sizes c.args.chart.now c.args.marks.now c.args.cells.now c.span_set-set.new.sets c.args.count
 ready c =
     let r = c.requires.0 in
-    record { accepted = r.accepted; names = r.names; between = between-meeting r.between c.span_set-set.ensures.1 }
+    record { names = r.names; between = between-meeting r.between c.span_set-set.ensures.1 }
 
 -- One cell more, or an item that did not fit.
 module _ (c : After-fill_cell) where
   abbrev turn : ℕ → Option (List Record) → Option (List Record)
-  turn = cell_turn c.args.card.bytes.now c.args.words.now.places c.args.sizes c.args.i c.args.j
+  turn = cell_turn c.args.input.card.bytes.now c.args.input.words.now.places c.args.sizes c.args.span
 
   abbrev before : Option (List Record)
   before = some (chart_in c.args.chart.now c.args.count)
 
   abbrev So : ℕ → Answer ℕ → Type 0
-  So m after = FilledTo c.args.card.bytes.now c.args.sizes (fold_up turn m before) c.args.chart.now c.fill_cell.new.chart c.fill_cell.new.marks
+  So m after = FilledTo c.args.input.card.bytes.now c.args.sizes (fold_up turn m before) c.args.chart.now c.fill_cell.new.chart c.fill_cell.new.marks
       c.fill_cell.new.cells c.fill_cell.new.sets after
 
   filled : So (c.loop-a.a + 1) c.fill_cell.result
   filled =
       let a = c.args in
       fold-then turn c.loop-a.a before c.loop-a.invariant.0
-      (cell-grows a.sizes.room (grammar_of a.card.bytes.now) (word_test a.words.now.places) (a.j - a.i) a.i)
-      (turn-filled c.open_cell-cell.ensures a.card.bytes.now a.words.now.places c.fill_cell.ensures.0)
+      (cell-grows a.sizes.room (grammar_of a.input.card.bytes.now) (word_test a.input.words.now.places) (a.span.to - a.span.from) a.span.from)
+      (turn-filled c.open_cell-cell.ensures a.input.card.bytes.now a.input.words.now.places c.fill_cell.ensures.0)
 
 pub span_set-set-requires : goal.span_set-set-requires
-span_set-set-requires c =
-    let p = c.requires in (p.0.between.words_fit, p.1, p.2, p.0.between.sorted.rows)
+span_set-set-requires c = rw c.requires.1 c.requires.0.between.sorted.rows
 
 pub returns-then-set-eq0 : goal.returns-then-set-eq0
 returns-then-set-eq0 c =
     let b = (ready (goal.at.returns-then-set-eq0 c).After-span_set-set).between in
-    filled_none b (sym (idle-span c.args.sizes.room b c.span_set-set.ensures.0 c.requires.1 c.requires.2 c.if-set-eq0.true))
+    filled_none b (sym (idle-span c.args.sizes.room b c.span_set-set.ensures.0 c.args.span.some (omega (arith, c.args.span.inside, c.requires.1)) c.if-set-eq0.true))
 
 pub loop-a-init : goal.loop-a-init
 loop-a-init c = (filled_none (ready (goal.at.loop-a-init c).After-span_set-set).between refl, (refl, λ s h. refl))
@@ -57,15 +56,15 @@ loop-a-init c = (filled_none (ready (goal.at.loop-a-init c).After-span_set-set).
 pub loop-a-preserved-then-productions-eq0 : goal.loop-a-preserved-then-productions-eq0
 loop-a-preserved-then-productions-eq0 c =
     let (sofar, only) = c.loop-a.invariant in (
-      span-skip (ready (goal.at.loop-a-preserved-then-productions-eq0 c).After-span_set-set).between c.span_set-set.ensures.0 c.requires.1
-          c.requires.2 only c.loop-a.a (omega arith) c.if-productions-eq0.true sofar,
+      span-skip (ready (goal.at.loop-a-preserved-then-productions-eq0 c).After-span_set-set).between c.span_set-set.ensures.0 c.args.span.some
+          (omega (arith, c.args.span.inside, c.requires.1)) only c.loop-a.a (omega arith) c.if-productions-eq0.true sofar,
       only,
     )
 
 pub fill_cell-requires : goal.fill_cell-requires
 fill_cell-requires c =
     let p = c.requires in
-    turn-fillable c.open_cell-cell.ensures (ready (goal.at.fill_cell-requires c).After-span_set-set) c.span_set-set.ensures.0 p.1 p.2 p.3
+    turn-fillable c.open_cell-cell.ensures (ready (goal.at.fill_cell-requires c).After-span_set-set) c.span_set-set.ensures.0 p.1 p.2
     c.loop-a.invariant.1 c.loop-a.invariant.0 c.loop-a-test.true
 
 pub returns-in_err-total : goal.returns-in_err-total
@@ -85,5 +84,5 @@ pub returns : goal.returns
 returns c =
     let a = c.args in
     let l = c.loop-a in
-    fold_at (cell_turn a.card.bytes.now a.words.now.places a.sizes a.i a.j) l.a a.sizes.symbols (some (chart_in a.chart.now a.count))
+    fold_at (cell_turn a.input.card.bytes.now a.input.words.now.places a.sizes a.span) l.a a.sizes.symbols (some (chart_in a.chart.now a.count))
     (omega arith) l.invariant.0

@@ -9,6 +9,6 @@ use Rattle.chart.proofs.build.close_span.Given as goal
 
 abbrev pub invariant-loop-a : goal.invariant-loop-a
 invariant-loop-a l =
-    FilledTo l.card.bytes.now l.sizes (fold_up (cell_turn l.card.bytes.now l.words.places l.sizes l.i l.j) l.a (some (chart_in l.initial.chart l.count)))
+    FilledTo l.input.card.bytes.now l.sizes (fold_up (cell_turn l.input.card.bytes.now l.input.words.now.places l.sizes l.span) l.a (some (chart_in l.initial.chart l.count)))
     l.initial.chart l.chart l.marks l.cells l.sets (Some l.total)
     × OnlySpans l.initial.sets l.sets

@@ -48,8 +48,8 @@ returns-then-total-cell c =
     let e = c.in_ok-total.ensures.advanced in
     let fits = c.in_ok-total.ensures.within in (
       cell-filled p.between p.inside p.fresh e
-          (cell-state a.chart.now new.chart a.cell.base c.in_ok-total.total a.cell.room (grammar_of a.card.bytes.now)
-          (word_test a.words.now.places) a.cell.left a.cell.from a.cell.to e.added.model fits p.inside.1)
+          (cell-state a.chart.now new.chart a.cell.base c.in_ok-total.total a.cell.room (grammar_of a.input.card.bytes.now)
+          (word_test a.input.words.now.places) a.cell.left a.cell.from a.cell.to e.added.model fits p.inside.1)
           fits c.if-total-cell.true c.finish-range.ensures p.numbered (fill-there p new.cells e.same_cells)
           c.put_range.ensures c.note.ensures,
       c.note.ensures.elsewhere,

@@ -5,9 +5,10 @@ use mathlib.Core.Path.{◌≡◌}
 use Rattle.sets.proofs.MeetLaws.{met-word}
 use Rattle.chart.proofs.build.span_set.Goals as goal
 
-pub returns-then-j-i-eq1 : goal.returns-then-j-i-eq1
-returns-then-j-i-eq1 c =
-    let word : c.args.j ≡ c.args.i + 1 = omega (arith, c.if-j-i-eq1.true, c.requires.1) in (
+pub returns-then-span-eq1 : goal.returns-then-span-eq1
+returns-then-span-eq1 c =
+    let s = c.args.span in
+    let word : s.to ≡ s.from + 1 = omega (arith, c.if-span-eq1.true, s.some) in (
       record {
         of_words = λ _. c.of_words.ensures;
         of_splits = λ p k a b. absurd (omega (arith, a, b, word));

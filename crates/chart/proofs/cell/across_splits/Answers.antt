@@ -65,7 +65,7 @@ like_before-like-requires c = c.requires.2.counted
 
 pub splits_of-splits-requires : goal.splits_of-splits-requires
 splits_of-splits-requires c = (
-  omega (arith, few-rules c.args.card.bytes.now c.requires.1.accepted, c.requires.2.counted),
+  omega (arith, few-rules c.args.card.bytes.now c.args.card.accepted, c.requires.2.counted),
   c.requires.1.long,
   λ k o. omega (arith, c.requires.0.works.words_fit, c.requires.0.inside.2, (c.requires.1.splits.inside k o).1),
 )
@@ -80,12 +80,8 @@ loop-k-init c =
           (λ o. absurd (omega (arith, inside (goal.at.loop-k-init c).After-splits_of-splits q o))))),
     )
 
-pub overflow_cast-k : goal.overflow_cast-k
-overflow_cast-k c =
-    omega (arith, (within (goal.at.overflow_cast-k c).In-Some).1, c.requires.0.inside.2, c.requires.0.works.words_fit)
-
 pub overflow_cast-p : goal.overflow_cast-p
-overflow_cast-p c = omega (arith, few-rules c.args.card.bytes.now c.requires.1.accepted, c.requires.2.counted)
+overflow_cast-p c = omega (arith, few-rules c.args.card.bytes.now c.args.card.accepted, c.requires.2.counted)
 
 pub by_production-requires : goal.by_production-requires
 by_production-requires c =
@@ -93,7 +89,7 @@ by_production-requires c =
     let a = c.args in (
       advance-filling {F = at_split a.card.bytes.now a.cell a.p} c.loop-k.invariant.1 c.requires.0,
       rw c.production-rule.ensures
-          (production-fits a.card.bytes.now c.requires.1.accepted a.p c.requires.2.counted c.requires.1.names),
+          (production-fits a.card.bytes.now c.args.card.accepted a.p c.requires.2.counted c.requires.1.names),
       (within t).0,
       (within t).1,
     )

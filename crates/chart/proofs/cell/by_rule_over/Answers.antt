@@ -20,15 +20,15 @@ returns-then-to-from-eq1 c =
     let from = c.from-from in
     advanced-kept c.requires.0
     (added-to-as
-    (ap (λ (r : Rule). by_word (one_of (get_or a.words.now.places from.result 0)) a.cell.left a.cell.from a.p r) c.production.ensures
-    ∙ over_word (begun_with a.cell a.chart.now) a.cell.left a.cell.from a.words.now.places a.cell.to from.result a.p
-    (production a.card.bytes.now a.p) (omega arith) (omega arith))
+    (ap (λ (r : Rule). by_word (one_of (get_or a.input.words.now.places from.result 0)) a.cell.left a.cell.from a.p r) c.production.ensures
+    ∙ over_word (begun_with a.cell a.chart.now) a.cell.left a.cell.from a.input.words.now.places a.cell.to from.result a.p
+    (production a.input.card.bytes.now a.p) (omega arith) (omega arith))
     c.at_word.ensures)
 
 pub returns : goal.returns
 returns c =
     let a = c.args in
     advanced-as
-    (over-splits (begun_with a.cell a.chart.now) a.cell.left a.cell.from (word_test a.words.now.places) a.cell.to a.p
-    (production a.card.bytes.now a.p) c.requires.0.inside.1 (λ q. omega arith))
+    (over-splits (begun_with a.cell a.chart.now) a.cell.left a.cell.from (word_test a.input.words.now.places) a.cell.to a.p
+    (production a.input.card.bytes.now a.p) c.requires.0.inside.1 (λ q. omega arith))
     c.across_splits.ensures

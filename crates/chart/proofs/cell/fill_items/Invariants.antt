@@ -8,5 +8,5 @@ use Rattle.chart.proofs.cell.fill_items.Given as goal
 abbrev pub invariant-loop-p : goal.invariant-loop-p
 invariant-loop-p l =
     (y : ℕ)
-    × Advancing l.cell (by_number l.card.bytes.now l.words.places l.cell l.set) 0 max_productions l.initial.chart l.initial.marks l.initial.cells l.cell.base l.chart l.marks l.cells y l.total
+    × Advancing l.cell (by_number l.input.card.bytes.now l.input.words.now.places l.cell l.set) 0 max_productions l.initial.chart l.initial.marks l.initial.cells l.cell.base l.chart l.marks l.cells y l.total
     × Walk l.set l.p-iterator.rest y

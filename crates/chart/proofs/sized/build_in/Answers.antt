@@ -7,25 +7,25 @@ use Rattle.chart.proofs.BuiltExact.{long-enough}
 use Rattle.chart.proofs.sized.build_in.Goals as goal
 
 pub build_sized-requires : goal.build_sized-requires
-build_sized-requires c = (lit< tt, c.requires.0, c.requires.1, long-enough 4 6 (omega arith) (omega arith))
+build_sized-requires c = (lit< tt, long-enough 4 6 (omega arith) (omega arith))
 
 pub build_sized-requires-then-n-le8 : goal.build_sized-requires-then-n-le8
-build_sized-requires-then-n-le8 c = (lit< tt, c.requires.0, c.requires.1, long-enough 8 6 (omega arith) (omega arith))
+build_sized-requires-then-n-le8 c = (lit< tt, long-enough 8 6 (omega arith) (omega arith))
 
 pub build_sized-requires-then-n-le6 : goal.build_sized-requires-then-n-le6
-build_sized-requires-then-n-le6 c = (lit< tt, c.requires.0, c.requires.1, long-enough 6 16 (omega arith) (few-names c.args.card.bytes.now c.requires.0.accepted))
+build_sized-requires-then-n-le6 c = (lit< tt, long-enough 6 16 (omega arith) (few-names c.args.input.card.bytes.now c.args.input.card.accepted))
 
 pub build_sized-requires-then-n-le12 : goal.build_sized-requires-then-n-le12
-build_sized-requires-then-n-le12 c = (lit< tt, c.requires.0, c.requires.1, long-enough 12 6 (omega arith) (omega arith))
+build_sized-requires-then-n-le12 c = (lit< tt, long-enough 12 6 (omega arith) (omega arith))
 
 pub build_sized-requires-then-n-le12-2 : goal.build_sized-requires-then-n-le12-2
-build_sized-requires-then-n-le12-2 c = (lit< tt, c.requires.0, c.requires.1, long-enough 12 16 (omega arith) (few-names c.args.card.bytes.now c.requires.0.accepted))
+build_sized-requires-then-n-le12-2 c = (lit< tt, long-enough 12 16 (omega arith) (few-names c.args.input.card.bytes.now c.args.input.card.accepted))
 
 pub build_sized-requires-then-n-le16 : goal.build_sized-requires-then-n-le16
-build_sized-requires-then-n-le16 c = (lit< tt, c.requires.0, c.requires.1, long-enough 16 6 (omega arith) (omega arith))
+build_sized-requires-then-n-le16 c = (lit< tt, long-enough 16 6 (omega arith) (omega arith))
 
 pub build_sized-requires-then-few-5 : goal.build_sized-requires-then-few-5
-build_sized-requires-then-few-5 c = (lit< tt, c.requires.0, c.requires.1, long-enough 24 6 (omega arith) (omega arith))
+build_sized-requires-then-few-5 c = (lit< tt, long-enough 24 6 (omega arith) (omega arith))
 
 pub build_sized-requires-else-few-5 : goal.build_sized-requires-else-few-5
-build_sized-requires-else-few-5 c = (lit< tt, c.requires.0, c.requires.1, long-enough 24 16 (omega arith) (few-names c.args.card.bytes.now c.requires.0.accepted))
+build_sized-requires-else-few-5 c = (lit< tt, long-enough 24 16 (omega arith) (few-names c.args.input.card.bytes.now c.args.input.card.accepted))

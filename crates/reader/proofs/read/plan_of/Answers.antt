@@ -7,15 +7,9 @@ use Rattle.unfold.specs.Unfold.{Plans, Found}
 use Rattle.reader.specs.Ended.{PlanOf}
 use Rattle.reader.proofs.read.plan_of.Goals as goal
 
-pub unfold-requires : goal.unfold-requires
-unfold-requires c =
-    let r = c.requires in
-    let (inside, whole) = c.in-Some.ensures.place in
-    record { accepted = r.accepted; at = r.at; held = r.held; inside = inside; whole = whole; room = r.room; short = r.short }
-
-planned : {card chart old new : List ℕ} {n count m s : ℕ} → Found chart count n (Some m) → Plans card chart count m old new → s ≡ 2 * n - 1
+planned : {card chart old new : List ℕ} {n count m s : ℕ} → Found chart count n (Some m) → Plans card chart m old new → s ≡ 2 * n - 1
     → PlanOf card chart n count old new (record { words = n; items = count; steps = Some s })
-planned {m = m} found plan steps = record { start = Some m; searched = found; answer = rw steps; plan = plan }
+planned {count = count} {m = m} found plan steps = record { start = Some m; searched = found; answer = rw steps; plan = λ at held. plan at count held found.place.0 }
 
 pub returns : goal.returns
 returns c = planned c.in-Some.ensures c.unfold.ensures (omega arith)

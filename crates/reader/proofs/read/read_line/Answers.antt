@@ -2,8 +2,7 @@
 -- Accepting says what the line's words are, so the chart that was built is the line's.
 use native.Mathlib.Omega.{arith}
 use Rattle.std.proofs.lemmas.Result.{err_from_is_err_and}
-use Rattle.reader.proofs.Accepting.{buildable}
-use Rattle.reader.proofs.Ends.{ends-line, ends-short, ends-over, charted, ends_found}
+use Rattle.reader.proofs.Ends.{ends-line, ends-short, ends-full, charted, ends_found}
 use Rattle.reader.proofs.read.read_line.Goals as goal
 
 pub returns-in_err-words : goal.returns-in_err-words
@@ -17,22 +16,22 @@ returns-then-plan-n c =
     let a = c.args in
     ends-short a.card.bytes.now a.line.now a.chart.now a.plan.now c.in_ok-words.ensures (omega (arith, c.if-plan-n.true))
 
-pub build_chart-requires : goal.build_chart-requires
-build_chart-requires c = buildable c.in_ok-words.ensures
-
-pub returns-in_default : goal.returns-in_default
-returns-in_default c =
+pub returns-in_err-items : goal.returns-in_err-items
+returns-in_err-items c =
     let a = c.args in
-    ends-over a.card.bytes.now a.line.now a.chart.now a.plan.now c.in_ok-words.ensures _ (omega (arith, c.if-plan-n.false))
-    (rw c.in_default.is at c.build_chart.ensures)
+    let full = c.in_err-items.ensures in
+    let (e, is, came) = err_from_is_err_and c.from_residual-in_err-items.result c.from_residual-in_err-items.ensures.1 in
+    rw (is, came)
+    (ends-full a.card.bytes.now a.line.now a.chart.now a.plan.now c.in_ok-words.ensures _ (omega (arith, c.if-plan-n.false)) full.value full.ok_part
+    c.build_chart.ensures)
 
 pub plan_of-requires : goal.plan_of-requires
 plan_of-requires c =
     let a = c.args in
-    charted a.card.bytes.now a.line.now a.chart.now a.plan.now c.in_ok-words.ensures _ (omega (arith, c.if-plan-n.false)) _ c.in-Some.ensures
+    charted a.card.bytes.now a.line.now a.chart.now a.plan.now c.in_ok-words.ensures _ (omega (arith, c.if-plan-n.false)) _ (rw c.in_ok-items.ensures.ok_part at c.build_chart.ensures)
 
 pub returns : goal.returns
 returns c =
     let a = c.args in
-    ends_found a.card.bytes.now a.line.now a.chart.now a.plan.now c.in_ok-words.ensures _ (omega (arith, c.if-plan-n.false)) _ c.in-Some.ensures
+    ends_found a.card.bytes.now a.line.now a.chart.now a.plan.now c.in_ok-words.ensures _ (omega (arith, c.if-plan-n.false)) _ (rw c.in_ok-items.ensures.ok_part at c.build_chart.ensures)
     c.plan_of.ensures

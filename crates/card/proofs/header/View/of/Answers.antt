@@ -4,18 +4,18 @@ use mathlib.Core.Path.{refl, ◌∙◌}
 use Rattle.layout.specs.Card.{header_length}
 use Rattle.card.proofs.header.View.of.Goals as goal
 
-pub returns : goal.returns
+pub invariant_of-result : goal.invariant_of-result
 unfolding header_length
-returns c =
+invariant_of-result c =
     record {
-      header = refl;
-      nonterminals = c.from.ensures ∙ c.byte.ensures;
-      words = c.from-2.ensures ∙ c.byte-2.ensures;
-      indices = c.from-3.ensures ∙ c.byte-3.ensures;
-      productions = c.from-4.ensures ∙ c.byte-4.ensures;
+      starts = refl;
       short_header = omega arith;
+      counts_nonterminals = c.from.ensures ∙ c.byte.ensures;
       few_nonterminals = omega (arith, c.from.ensures, c.byte.type_inv);
+      counts_words = c.from-2.ensures ∙ c.byte-2.ensures;
       few_words = omega (arith, c.from-2.ensures, c.byte-2.type_inv);
+      counts_indices = c.from-3.ensures ∙ c.byte-3.ensures;
       few_indices = omega (arith, c.from-3.ensures, c.byte-3.type_inv);
+      counts_productions = c.from-4.ensures ∙ c.byte-4.ensures;
       few_productions = omega (arith, c.from-4.ensures, c.byte-4.type_inv);
     }
