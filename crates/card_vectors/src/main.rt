@@ -29,11 +29,22 @@ fn change(
     println!(rt; "{at} {value} {other} {otherwise} {length} {number}")
 }
 
-// The numbers that a card gets with each value of one byte, as runs of values.
+// The numbers that a card gets with each value of one byte, as runs of values: first, last, number. The program `check_pairs_vectors` has such a
+// loop over lengths: what only prints has no promise to make, and so is no public function for both.
 fn runs(rt: &impl Print, card: [u8; 138], at: usize) -> io::Result<()> {
-    samples::print_runs(rt, 255, |value| {
-        refusals::number(&Card::check(&with(card, at, value)))
-    })
+    let number = |value| refusals::number(&Card::check(&with(card, at, value)));
+    let mut first = 0u8;
+    let mut same = number(0);
+    for last in 0..255u8 {
+        let value = last + 1;
+        let next = number(value);
+        if next != same {
+            print!(rt; " {first}-{last}:{same}")?;
+            first = value;
+            same = next;
+        }
+    }
+    print!(rt; " {first}-255:{same}")
 }
 
 // A line for each byte of a stretch: its place, and the runs.

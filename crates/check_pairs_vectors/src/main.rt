@@ -74,12 +74,23 @@ impl<'a> Case<'a> {
         println!(rt; "any value: {sum}")
     }
 
-    // The numbers of the first 0 to 200 bytes of the plan with zeros after it, as runs of lengths.
+    // The numbers of the first 0 to 200 bytes of the plan with zeros after it, as runs of lengths. (As `runs` of `card_vectors`, for the reason
+    // there.)
     fn lengths(&self, rt: &impl Print) -> io::Result<()> {
         let bytes = filled(self.plan);
+        let mut first = 0;
+        let mut same = self.number(b"");
         print!(rt; "lengths")?;
-        samples::print_runs(rt, 200, |length| self.number(&bytes[..usize::from(length)]))?;
-        println!(rt;)
+        for last in 0..200usize {
+            let length = last + 1;
+            let found = self.number(&bytes[..length]);
+            if found != same {
+                print!(rt; " {first}-{last}:{same}")?;
+                first = length;
+                same = found;
+            }
+        }
+        println!(rt; " {first}-200:{same}")
     }
 
     // Pairs in the first bytes of a room that is filled with 170: the number and the count, and then all of the room.

@@ -22,15 +22,13 @@ use Rattle.chart_model.proofs.BuildLaws.{Has, in-flat_up, flat_up-in}
 use Rattle.chart_model.proofs.Candidates.{places-in}
 use Rattle.chart_model.proofs.FillModel.{in-counted}
 use Rattle.records.specs.declared.record.OpenCell.{OpenCell}
-use Rattle.records.specs.declared.cells.Range.{Range}
 use Rattle.records.specs.Room.{chart_in, Working, Added}
 use Rattle.records.specs.Cells.{spans, cell_at, SpanFits, range_in, cover_in, with_cover, covered_in, noted_anew}
 use Rattle.records.specs.Cover.{CoversIn, Covering, CellRange}
-use Rattle.records.specs.Filling.{begun_with, over_range, AddedTo, AdvancedTo, Filling, RangeAt}
+use Rattle.records.specs.Filling.{begun_with, AddedTo, AdvancedTo, Filling}
 use Rattle.records.proofs.TableLaws.{cell_below, spans-more}
 use Rattle.records.proofs.CellsLaws.{cover-length, cover-range, noted-length, noted-range, indexed-ranges}
 use Rattle.records.proofs.AddLaws.{state-fits}
-use Rattle.records.proofs.RoomLaws.{chart-length}
 use Rattle.records.proofs.CoverLaws.{chart-wider, each-wider, each_in, each-known, place-has}
 use Rattle.records.proofs.CoverLaws.{covering-wider, covering-below, covered-sound, covering-note, covering-anew}
 use Rattle.steps.proofs.StepLaws.{added-as, Looped, loop-start, loop-works, loop-kept, loop-end, loop-turn, loop-over, nothing-added, added-to-as}
@@ -175,7 +173,7 @@ module _ {cell : OpenCell} {chart marks cells : List ℕ} {count : ℕ} (h : Fil
           covering = rw (e, h.numbered, d.number) (covering-anew h.covering h.inside wider d.fits);
         }
 
-    advanced-looked : {rs : List Record} {seen new new_marks new_cells : List ℕ} {after : Option ℕ} → seen ≡ noted_anew cells cell.number at
+    pub advanced-looked : {rs : List Record} {seen new new_marks new_cells : List ℕ} {after : Option ℕ} → seen ≡ noted_anew cells cell.number at
         → AdvancedTo cell rs chart marks seen count new new_marks new_cells after
         → AdvancedTo cell rs chart marks cells count new new_marks new_cells after
     advanced-looked e a =
@@ -192,7 +190,7 @@ module _ {cell : OpenCell} {chart marks cells : List ℕ} {count : ℕ} (h : Fil
 
     -- No place to add from; a cell that is passed over; and one whose feet are all taken over.
     module _ (f : ℕ → List Record) (one : (x : ℕ) → map item_of (f x) ≡ item cell.left cell.from cell.to (foot_at b x) ∷ []) where
-      advanced-none : to ≤ from → AdvancedTo cell (flat_up f from (to - from)) chart marks cells count chart marks cells (Some count)
+      pub advanced-none : to ≤ from → AdvancedTo cell (flat_up f from (to - from)) chart marks cells count chart marks cells (Some count)
       advanced-none l = advanced-kept (added-to-as (ap (flat_up f from) no-places) (nothing-added h.works))
         where
           no-places : 0 ≡ to - from
@@ -217,7 +215,7 @@ module _ {cell : OpenCell} {chart marks cells : List ℕ} {count : ℕ} (h : Fil
           test : covered_in cells (cell_at N cell.left cell.from cell.to) (cell_at N d.symbol d.start d.end) ≡ true
           test = rw (sym h.numbered, sym d.number) t
 
-      taken-over : {new new_marks new_cells : List ℕ} {after : ℕ} → from < to
+      pub taken-over : {new new_marks new_cells : List ℕ} {after : ℕ} → from < to
           → AddedTo cell (flat_up f from (to - from)) chart marks count new new_marks (Some after)
           → new_cells ≡ with_cover cells at (cell.number + 1)
           → AdvancedTo cell (flat_up f from (to - from)) chart marks cells count new new_marks new_cells (Some after)
@@ -244,46 +242,6 @@ module _ {cell : OpenCell} {chart marks cells : List ℕ} {count : ℕ} (h : Fil
           noted : Covering n N cell.left cell.from cell.to b (chart_in new after) new_cells
           noted =
               rw (e, h.numbered, d.number, add-one) (covering-note ((advanced-kept a).advanced.covering a.within) d.fits over some-there)
-
--- A cell whose range is read once the cell was looked for. The look changes no range, so what is done from there on adds the records of the
--- range that the table had.
-module _ {cell : OpenCell} {chart marks cells seen : List ℕ} {count at : ℕ} {R : Range} (h : Filling cell chart marks cells count)
-    (d : RangeAt cell chart at (range_in cells at)) (e : seen ≡ noted_anew cells cell.number at) (r : R ≡ range_in seen at) where
-  same_range : R ≡ range_in cells at
-  same_range = r ∙ ap (λ (l : List ℕ). range_in l at) e ∙ noted-range cells cell.number at at
-
-  read-at : RangeAt cell chart at R
-  read-at = subst (RangeAt cell chart at) (sym same_range) d
-
-  looked : Filling cell chart marks seen count
-  looked = looked-at h d e
-
-  as-read : (f : ℕ → List Record) {new new_marks new_cells : List ℕ} {after : Option ℕ}
-      → AdvancedTo cell (over_range f R) chart marks seen count new new_marks new_cells after
-      → AdvancedTo cell (over_range f (range_in cells at)) chart marks cells count new new_marks new_cells after
-  as-read f a = advanced-looked h d e (advanced-as (ap (over_range f) same_range) a)
-
-  pub read-below : R.to ≤ cell.base
-  read-below = subst (λ (R : Range). R.to ≤ cell.base) (sym same_range) (omega (arith, h.indexed.to_within at, chart-length chart cell.base))
-
-  pub read-notes : (cell.number < 65535) × (4 * at + 4 ≤ length seen)
-  read-notes = note-fits looked read-at
-
-  -- The room is full.
-  pub read-full : (f : ℕ → List Record) {new new_marks : List ℕ} → AddedTo cell (over_range f R) chart marks count new new_marks None
-      → AdvancedTo cell (over_range f (range_in cells at)) chart marks cells count new new_marks seen None
-  read-full f a = as-read f (advanced-kept looked a)
-
-  module _ (f : ℕ → List Record)
-      (one : (x : ℕ) → map item_of (f x) ≡ item cell.left cell.from cell.to (foot_at (begun_with cell chart) x) ∷ []) where
-    pub read-none : R.to ≤ R.from
-        → AdvancedTo cell (over_range f (range_in cells at)) chart marks cells count chart marks seen (Some count)
-    read-none l = as-read f (advanced-none looked read-at f one l)
-
-    pub read-over : {new new_marks new_cells : List ℕ} {after : ℕ} → R.from < R.to
-        → AddedTo cell (over_range f R) chart marks count new new_marks (Some after) → new_cells ≡ with_cover seen at (cell.number + 1)
-        → AdvancedTo cell (over_range f (range_in cells at)) chart marks cells count new new_marks new_cells (Some after)
-    read-over l a n = as-read f (taken-over looked read-at f one l a n)
 
 -- A loop whose calls pass cells over: as one whose calls add, and the table has the ranges that it had and is right at each turn. F makes the
 -- candidates of a place from the records that stood when the cell was begun.

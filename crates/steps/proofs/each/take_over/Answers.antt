@@ -3,7 +3,8 @@ use native.Mathlib.Omega.{arith}
 use mathlib.Core.Path.{refl, sym, ◌∙◌}
 use Rattle.records.specs.Filling.{begun_with}
 use Rattle.steps.specs.Candidates.{reached}
-use Rattle.steps.proofs.StepCover.{look-fits, note-fits, looked-at, passed_over, read-below, read-notes, read-full, read-none, read-over}
+use Rattle.steps.proofs.StepCover.{look-fits, note-fits, looked-at, passed_over}
+use Rattle.steps.proofs.StepReads.{read-below, read-notes, read-full, read-none, read-over}
 use Rattle.steps.proofs.each.take_over.Goals as goal
 
 pub is_covered-requires : goal.is_covered-requires
