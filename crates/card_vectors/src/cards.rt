@@ -42,16 +42,25 @@ pub fn tomato() -> [u8; 1024] {
     card
 }
 
+// The largest card's 32 entries, and its 64 productions.
+fn put_entries(table: &mut [u8]) {
+    for (v, bytes) in (0..32u8).zip(table.chunks_exact_mut(12)) {
+        bytes.copy_from_slice(&entry(v));
+    }
+}
+
+fn put_productions(table: &mut [u8]) {
+    for (m, bytes) in (0..64u8).zip(table.chunks_exact_mut(6)) {
+        bytes.copy_from_slice(&production(m));
+    }
+}
+
 // Every count at its limit: 780 bytes.
 pub fn largest() -> [u8; 1024] {
     let mut card = [0u8; 1024];
     card[..12].copy_from_slice(&LARGEST);
-    for (v, bytes) in (0..32u8).zip(card[12..396].chunks_exact_mut(12)) {
-        bytes.copy_from_slice(&entry(v));
-    }
-    for (m, bytes) in (0..64u8).zip(card[396..780].chunks_exact_mut(6)) {
-        bytes.copy_from_slice(&production(m));
-    }
+    put_entries(&mut card[12..396]);
+    put_productions(&mut card[396..780]);
     card
 }
 
