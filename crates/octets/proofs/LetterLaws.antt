@@ -1,11 +1,13 @@
 -- Runs of letters, and the parts of a list of bytes that they stand in.
-use Prim.Native.Nat.{ℕ, ◌+◌, ◌-◌, ◌≤◌, ◌<◌}
+use Prim.Native.Nat.{ℕ, suc, ◌+◌, ◌-◌, ◌≤◌, ◌<◌}
 use native.Mathlib.Omega.{arith}
-use mathlib.Core.Path.{◌≡◌, sym, ◌∙◌, ap}
-use mathlib.Core.Bool.{Bool, true}
+use mathlib.Core.Path.{◌≡◌, refl, sym, ◌∙◌, ap}
+use mathlib.Core.Bool.{Bool, true, false, ◌&&◌, ◌||◌}
 use mathlib.Core.List.{List, [], ◌∷◌, ◌++◌}
 use lib.ListN.{length, get_or, take, drop, length-take, length-drop, take-append-drop}
-use lib.Seq.{take-add, take-length, drop-drop, get_or-take, get_or-drop}
+use lib.Dec.{leb}
+use Rattle.std.specs.Char.{is_ascii_digit}
+use lib.Seq.{take-suc, take-add, take-length, drop-drop, get_or-take, get_or-drop}
 use Rattle.layout.specs.Bytes.{byte_at, is_letter, all_bytes}
 use Rattle.layout.proofs.TestLaws.{both, all-bytes}
 use Rattle.octets.specs.Letters.{part, Letters}
@@ -22,12 +24,32 @@ all_append test (x ∷ a) b e f =
 pub part_length : (bytes : List ℕ) (start i : ℕ) → i ≤ length bytes → length (part bytes start i) ≡ i - start
 part_length bytes start i h = simp (length-take, length-drop) (omega arith)
 
+pub part-more : (bytes : List ℕ) (start i : ℕ) → start ≤ i → i < length bytes
+    → part bytes start (i + 1) ≡ part bytes start i ++ (byte_at bytes i ∷ [])
+part-more bytes start i a h =
+    let e : i + 1 - start ≡ suc (i - start) = omega arith in
+    let f : start + (i - start) ≡ i = omega arith in
+    rw e
+    (take-suc (drop start bytes) (i - start) 0 (omega (arith, length-drop start bytes))
+    ∙ rw (get_or-drop start bytes (i - start) 0, f))
+
 pub part-rest : (bytes : List ℕ) (start stop : ℕ) → start ≤ stop → drop start bytes ≡ part bytes start stop ++ drop stop bytes
 part-rest bytes start stop a =
     let f : start + (stop - start) ≡ stop = omega arith in
     sym (take-append-drop (stop - start) (drop start bytes)) ∙ rw (drop-drop, f)
 
--- One run of letters after another.
+-- One letter more, and one run of letters after another.
+pub letters-more : {bytes : List ℕ} {at i : ℕ} → Letters bytes at i → i < length bytes → is_letter (byte_at bytes i) ≡ true
+    → Letters bytes at (i + 1)
+letters-more {bytes} {at} {i} s h e =
+    record {
+      after = omega (arith, s.after);
+      within = omega arith;
+      letters =
+          rw (part-more bytes at i s.after h)
+          (all_append is_letter (part bytes at i) (byte_at bytes i ∷ []) s.letters (rw e));
+    }
+
 pub letters-join : {bytes : List ℕ} {at i stop : ℕ} → Letters bytes at i → Letters bytes i stop → Letters bytes at stop
 letters-join {bytes} {at} {i} {stop} s t =
     let sum : stop - at ≡ i - at + (stop - i) = omega (arith, s.after, t.after) in
@@ -39,7 +61,14 @@ letters-join {bytes} {at} {i} {stop} s t =
           rw (sum, take-add, drop-drop, place) (all_append is_letter (part bytes at i) (part bytes i stop) s.letters t.letters);
     }
 
--- Passed by a test that only letters fit.
+-- Passed by a test that only letters fit; a digit is one.
+pub digit-letter : (b : ℕ) → is_ascii_digit b ≡ true → is_letter b ≡ true
+digit-letter b h = go (leb 0x61 b && leb b 0x7A) h
+  where
+    go : (t : Bool) {u : Bool} → u ≡ true → (t || u) ≡ true
+    go true h = refl
+    go false h = h
+
 pub letters-passed : {fits : ℕ → Bool → Type 0} {bytes : List ℕ} {at stop : ℕ} → ((b : ℕ) → fits b true → is_letter b ≡ true)
     → Past fits bytes at stop → Letters bytes at stop
 letters-passed {fits} {bytes} {at} {stop} fit p =

@@ -4,7 +4,7 @@
 ghost use Rattle.std.specs.Prelude.{◌≡◌, ◌<◌, ◌≤◌, ◌+◌, eqb, length};
 ghost use Rattle.layout.specs.Bytes.{byte_at, number16_at, is_letter, same_bytes, all_bytes};
 ghost use Rattle.octets.specs.Past.{Past};
-ghost use Rattle.octets.specs.Letters.{Letters};
+ghost use Rattle.octets.specs.Letters.{Letters, AllLetters};
 
 // The byte at a place, 0 past the end.
 pub fn byte(s: &[u8], k: usize) -> u8
@@ -50,22 +50,33 @@ pub fn past_small(s: &[u8], at: usize) -> usize
     past(s, at, |b| b.is_ascii_lowercase())
 }
 
-// Most words are letters a to z alone, which is one test for a byte. Here and below a `for`: the library's `all` and its `==` of slices go
-// by groups, and divide for that; the archive has no division.
+// Past the digits that stand at `at`.
+fn past_digits(s: &[u8], at: usize) -> usize
+    requires { at ≤ length s.now }
+    ensures { Letters s.now at result }
+{
+    past(s, at, |b| b.is_ascii_digit())
+}
+
+// Past the letters that stand at `at`, a to z and 0 to 9: run by run, with one test for each byte of a run.
+pub fn past_letters(s: &[u8], at: usize) -> usize
+    requires { at ≤ length s.now }
+    ensures { AllLetters s.now at result }
+{
+    let mut end = past_small(s, at);
+    while end < s.len() && is_letter(s[end]) {
+        end = past_small(s, past_digits(s, end + 1));
+    }
+    end
+}
+
 pub fn all_letters(s: &[u8]) -> bool
     ensures { result ≡ all_bytes is_letter s.now }
 {
-    if past_small(s, 0) == s.len() {
-        return true;
-    }
-    for b in s {
-        if !is_letter(*b) {
-            return false;
-        }
-    }
-    true
+    past_letters(s, 0) == s.len()
 }
 
+// Here and below a `for`: the library's `all` and its `==` of slices go by groups, and divide for that; the archive has no division.
 pub fn all_zero(s: &[u8]) -> bool
     ensures { result ≡ all_bytes (eqb 0) s.now }
 {
