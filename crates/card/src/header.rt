@@ -5,7 +5,6 @@ ghost use Rattle.layout.specs.Card.{least_header, most_header, entry_at, product
 ghost use Rattle.layout.specs.Card.{mark_fits, counts_fit, lengths_fit};
 
 use crate::Card;
-use crate::numbers::within;
 use octets::{byte, read16, same_bytes};
 
 // A card before it is accepted: any bytes, with the length of their header and their four counts, by which things stand on them. Each count
@@ -31,12 +30,19 @@ pub struct View<'a> {
 }
 
 impl<'a> View<'a> {
+    // How long the header of these bytes is. No other function knows its value.
+    pub fn header_length(bytes: &[u8]) -> usize
+        ensures { (result ≡ header_length bytes.now) × (result ≤ most_header) }
+    {
+        Card::LEAST_HEADER
+    }
+
     pub fn of(bytes: &'a [u8]) -> View<'a>
         ensures { result.bytes.now ≡ bytes.now }
     {
         View {
             bytes,
-            header: Card::LEAST_HEADER,
+            header: View::header_length(bytes),
             nonterminals: usize::from(byte(bytes, 4)),
             words: usize::from(byte(bytes, 5)),
             indices: usize::from(byte(bytes, 6)),
@@ -49,7 +55,7 @@ impl<'a> View<'a> {
         requires { v < 256 }
         ensures { result ≡ entry_at self.entry.bytes.now v }
     {
-        self.header + Card::ENTRY * v
+        Card::entry_behind(self.header, v)
     }
 
     // Where the productions start.
@@ -78,10 +84,12 @@ impl<'a> View<'a> {
     pub fn counts_fit(self) -> bool
         ensures { result ≡ counts_fit self.entry.bytes.now }
     {
-        within(1, Card::MAX_NONTERMINALS, self.nonterminals)
-            && within(1, Card::MAX_WORDS, self.words)
-            && within(0, Card::MAX_INDICES, self.indices)
-            && within(1, Card::MAX_PRODUCTIONS, self.productions)
+        Card::within_limits(
+            self.nonterminals,
+            self.words,
+            self.indices,
+            self.productions,
+        )
     }
 
     // Refusal 13 asks this.

@@ -8,17 +8,45 @@ mod names;
 mod numbers;
 mod productions;
 
-ghost use Rattle.std.specs.Prelude.{◌≡◌, ◌+◌, ◌≤◌, ◌<◌, IfOk, length};
-ghost use Rattle.layout.specs.Card.{nonterminal_count, word_count, index_count, production_count};
+ghost use Rattle.std.specs.Prelude.{◌≡◌, ◌&&◌, ◌+◌, ◌*◌, ◌≤◌, ◌<◌, IfOk, length};
+ghost use Rattle.layout.specs.Card as layout;
+ghost use Rattle.layout.specs.Card.{most_header, nonterminal_count, word_count, index_count, production_count};
 ghost use Rattle.layout.specs.Card.{max_nonterminals, max_words, max_indices, max_productions};
-ghost use Rattle.layout.specs.Card.{entry_at, production_table, production_at, production_length, production, card_number};
+ghost use Rattle.layout.specs.Card.{entry_length, entry_at, production_table, production_at, production_length, production, card_number};
 ghost use Rattle.layout.specs.Answers.{name_answer, name_part};
+ghost use Rattle.refusals.specs.Number.{number_told};
 ghost use Rattle.card.specs.Productions.{rule_from};
 ghost use Rattle.card.specs.Spelled.{answer_in};
 
 use header::View;
+use numbers::within;
 use productions::Fields;
 use refusals::Refusal;
+
+// Refusals 11 to 14, 16 and 42 in their order, each over the whole card. Apart from `Card::check`, since an answer without a card needs no
+// stack for one.
+pub fn check(bytes: &[u8]) -> Result<(), Refusal>
+    ensures { number_told result ≡ card_number bytes.now }
+{
+    if !header::mark_fits(bytes) {
+        return Err(Refusal::Mark);
+    }
+    let view = View::of(bytes);
+    if !view.counts_fit() {
+        return Err(Refusal::Counts);
+    }
+    if !view.lengths_fit() {
+        return Err(Refusal::Lengths);
+    }
+    if !view.entries_fit() {
+        return Err(Refusal::Entry);
+    }
+    let names = productions::check(view)?;
+    if !names.live() {
+        return Err(Refusal::DeadName);
+    }
+    Ok(())
+}
 
 // An accepted card, as its bytes, with where its productions start: each of them is looked for by that place, and it is computed once.
 // The limits and the places of the tables belong to this type.
@@ -51,27 +79,36 @@ impl<'a> Card<'a> {
 
     pub const PRODUCTION: usize = 6;
 
-    // Refusals 11 to 14, 16 and 42 in their order, each over the whole card.
+    // Are these four counts within a card's limits? Any numbers may be asked of, those of a header among them.
+    pub fn within_limits(
+        nonterminals: usize,
+        words: usize,
+        indices: usize,
+        productions: usize,
+    ) -> bool
+        ensures { result ≡ (layout.within 1 max_nonterminals nonterminals && (layout.within 1 max_words words
+            && (layout.within 0 max_indices indices && layout.within 1 max_productions productions))) }
+    {
+        within(1, Self::MAX_NONTERMINALS, nonterminals)
+            && within(1, Self::MAX_WORDS, words)
+            && within(0, Self::MAX_INDICES, indices)
+            && within(1, Self::MAX_PRODUCTIONS, productions)
+    }
+
+    // Where entry v starts behind a header of so many bytes.
+    pub fn entry_behind(header: usize, v: usize) -> usize
+        requires { (header ≤ most_header) × (v < 256) }
+        ensures { result ≡ header + entry_length * v }
+    {
+        header + Self::ENTRY * v
+    }
+
+    // The card, if `check` refuses nothing of its bytes.
     pub fn check(bytes: &'a [u8]) -> Result<Card<'a>, Refusal>
         ensures { Checks bytes.now result }
     {
-        if !header::mark_fits(bytes) {
-            return Err(Refusal::Mark);
-        }
+        check(bytes)?;
         let view = View::of(bytes);
-        if !view.counts_fit() {
-            return Err(Refusal::Counts);
-        }
-        if !view.lengths_fit() {
-            return Err(Refusal::Lengths);
-        }
-        if !view.entries_fit() {
-            return Err(Refusal::Entry);
-        }
-        let names = productions::check(view)?;
-        if !names.live() {
-            return Err(Refusal::DeadName);
-        }
         Ok(Card {
             bytes,
             table: view.production_table(),
@@ -112,7 +149,7 @@ impl<'a> Card<'a> {
         requires { v < 256 }
         ensures { result ≡ entry_at self.entry.bytes.now v }
     {
-        Self::LEAST_HEADER + Self::ENTRY * v
+        Self::entry_behind(View::header_length(self.bytes), v)
     }
 
     // Where production m starts.

@@ -8,7 +8,6 @@ ghost use Rattle.layout.specs.Answers as answers;
 ghost use Rattle.sheet.specs.Sheet.{pack_sheet};
 ghost use Rattle.lig.specs.Exports.{ReadPacked, PairsPacked, SheetPacked};
 
-use card::Card;
 use refusals::Refusal;
 
 // 16 bits each from the low end. C reads numbers, so what is a result or an option inside is one number here.
@@ -36,7 +35,7 @@ fn pack_sheet(number: u64, line: u8, records: usize) -> u64
 pub extern "C" fn lig_card_check(card: &[u8]) -> u64
     ensures { result ≡ card_number card.now }
 {
-    refusals::number(&Card::check(card))
+    refusals::number(&card::check(card))
 }
 
 #[unsafe(no_mangle)]

@@ -1,15 +1,13 @@
--- `View::of`: the header's length by its definition, and each count the byte that was read for it.
+-- `View::of`: the header's length, and each count the byte that was read for it.
 use native.Mathlib.Omega.{arith}
-use mathlib.Core.Path.{refl, ◌∙◌}
-use Rattle.layout.specs.Card.{header_length}
+use mathlib.Core.Path.{◌∙◌}
 use Rattle.card.proofs.header.View.of.Goals as goal
 
 pub invariant_of-result : goal.invariant_of-result
-unfolding header_length
 invariant_of-result c =
     record {
-      starts = refl;
-      short_header = omega arith;
+      starts = c.header_length.ensures.0;
+      short_header = c.header_length.ensures.1;
       counts_nonterminals = c.from.ensures ∙ c.byte.ensures;
       few_nonterminals = omega (arith, c.from.ensures, c.byte.type_inv);
       counts_words = c.from-2.ensures ∙ c.byte-2.ensures;
