@@ -18,7 +18,7 @@ pub fn check_line(card: Card, line: &[u8], plan: &[u8]) -> Result<(), Refusal>
     ensures { number_told result ≡ check_number card.entry.bytes.now line.now plan.now }
 {
     let words = line::accept_line(card, line)?;
-    if !goals::replay::replay(card, &words, plan) {
+    if !goals::replay::replay(card, &words.places, words.count, plan) {
         return Err(Refusal::NotItsPlan);
     }
     Ok(())

@@ -65,7 +65,7 @@ pub fn one_give(action: Action) -> usize
 
 // The places of the takes that wait for their give, how many they are, and how many pairs are still to be written. An array, since there is no
 // heap.
-#[derive(Drop)]
+#[derive(Clone, Copy)]
 pub struct Matching {
     takes: [u8; ENTRIES],
     waiting: usize,

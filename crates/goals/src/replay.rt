@@ -10,7 +10,7 @@ ghost use Rattle.goals.specs.Shown.{tops, action_of, CanTake, acted, opened, Roo
 ghost use Rattle.goals.specs.Shown.{Within, first_of, split_fits_top, fits_top, StepAt, Replayed};
 
 use card::{Action, Card, Production};
-use places::{MOST_WORDS, Words};
+use places::MOST_WORDS;
 
 // A step of a plan as its four bytes: the production's number, and its stretch with the split.
 #[derive(Clone, Copy)]
@@ -214,9 +214,9 @@ impl Goals {
     }
 
     // One step: it has to be of the first goal's stretch, and its production has to be there and to fit.
-    fn advance(&mut self, card: Card, words: &Words, step: StepBytes) -> bool
+    fn advance(&mut self, card: Card, places: &[u32; MOST_WORDS], step: StepBytes) -> bool
         requires { Within self.old }
-        ensures { Replayed card.entry.bytes.now words.now.places step self.old self.new result }
+        ensures { Replayed card.entry.bytes.now places.now step self.old self.new result }
     {
         let Some(top) = self.first() else {
             return false;
@@ -229,7 +229,7 @@ impl Goals {
             return false;
         }
         let production = card.production(number);
-        if !top.fits(production, step.split, words.places[usize::from(top.start)]) {
+        if !top.fits(production, step.split, places[usize::from(top.start)]) {
             return false;
         }
         self.replace(production, step.split);
@@ -249,20 +249,21 @@ pub fn step_at(plan: &[u8], at: usize) -> StepBytes
     }
 }
 
-// Does the plan, all its bytes, derive the line? The first step that cannot stand ends it. There are never more goals or indices than
-// words.
-pub fn replay(card: Card, words: &Words, plan: &[u8]) -> bool
-    ensures { result ≡ model.replay_from (grammar_of card.entry.bytes.now) (word_test words.now.places)
-        (model.goals_start words.now.count) (steps_of plan.now) }
+// Does the plan, all its bytes, derive the line of n words, whatever stands past them? The first step that cannot stand ends it. There are
+// never more goals or indices than words.
+pub fn replay(card: Card, places: &[u32; MOST_WORDS], n: usize, plan: &[u8]) -> bool
+    requires { (0 < n) × (n ≤ 24) }
+    ensures { result ≡ model.replay_from (grammar_of card.entry.bytes.now) (word_test places.now)
+        (model.goals_start n) (steps_of plan.now) }
 {
     if plan.len() & 3 != 0 {
         return false;
     }
     // By `as`: a line has 24 words at most, and `try_from` would test that once more.
-    let mut goals = Goals::start(words.count as u8);
+    let mut goals = Goals::start(n as u8);
     // No `chunks_exact` or `as_chunks`: they divide, and the archive has no division.
     for k in 0..plan.len() >> 2 {
-        if !goals.advance(card, words, step_at(plan, 4 * k)) {
+        if !goals.advance(card, places, step_at(plan, 4 * k)) {
             return false;
         }
     }

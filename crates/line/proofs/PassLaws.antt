@@ -88,5 +88,10 @@ module _ {card line stored : List ℕ} {at n : ℕ} (ok : card_number card ≡ 0
       let number = v.number ∙ number_is in
       record {
         number = number;
-        words = record { count = v.words.0 ∙ all-counted; places = v.words.1 ∙ stored_is (sym number) };
+        words =
+            record {
+              count = v.words.0 ∙ all-counted;
+              places = v.words.1 ∙ stored_is (sym number);
+              some = omega (arith, v.words.0, all-counted, (accepted-line card line (sym number)).some_words);
+            };
       }

@@ -1,6 +1,6 @@
 -- What accepting a line answers, from card and line alone: the number of the refusal, or the words' count and the set of the words at
 -- each place, empty past the last.
-use Rattle.std.specs.Prelude.{ℕ, ◌-◌, ◌≡◌, Bool, not, eqb, List, ◌++◌, map, take, replicate, Result, IfOk}
+use Rattle.std.specs.Prelude.{ℕ, ◌-◌, ◌<◌, ◌≡◌, Bool, not, eqb, List, ◌++◌, map, take, replicate, Result, IfOk}
 use Rattle.layout.specs.Bytes.{all_bytes}
 use Rattle.layout.specs.Refusals.{first_refusal}
 use Rattle.layout.specs.Line.{most_words, words_of, words_refusals}
@@ -14,10 +14,11 @@ use Rattle.line.specs.Lookup.{word_set}
 abbrev pub places_of : List ℕ → List ℕ → List ℕ
 places_of card line = map (word_set card) (words_of line) ++ replicate (most_words - words_in line) 0
 
--- The words of a line.
+-- The words of a line, which has some.
 pub record WordsOf (card line : List ℕ) (words : Words) : Type 0 where
   pub count : words.count ≡ words_in line
   pub places : words.places ≡ places_of card line
+  pub some : 0 < words.count
 
 pub record Accepts (card line : List ℕ) (r : Result Words Refusal) : Type 0 where
   pub number : number_told r ≡ input_number card line

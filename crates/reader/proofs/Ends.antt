@@ -83,7 +83,7 @@ module _ (card line old_chart old_plan new_chart new_plan : List ℕ) (r : Readi
       (room_after card line old_chart new_chart count card_accepted built) plan
 
 -- A refusal of card or line.
-ends-input : (card line old_chart old_plan : List ℕ) (e : Refusal) → number_of e ≡ input_number card line
+pub ends-input : (card line old_chart old_plan : List ℕ) (e : Refusal) → number_of e ≡ input_number card line
     → Reads card line old_chart old_plan old_chart old_plan (Err e)
 ends-input card line old_chart old_plan e same =
     let number = input_number card line in
@@ -121,7 +121,7 @@ module _ (card line old_chart old_plan : List ℕ) {w : Words} (x : Accepts card
     room-enough : plan_room (words_in line) ≤ length old_plan
     room-enough = subst (λ (n : ℕ). plan_room n ≤ length old_plan) (answered-count x) enough
 
-    ends-over : BuiltRoom card (word_test w.places) w.count None old_chart new_chart
+    pub ends-over : BuiltRoom card (word_test w.places) w.count None old_chart new_chart
         → Reads card line old_chart old_plan new_chart old_plan (Err ChartRoom)
     ends-over made =
         let full = line-built None made in
@@ -146,7 +146,7 @@ module _ (card line old_chart old_plan : List ℕ) {w : Words} (x : Accepts card
           record {
             at = line_test card line;
             held = chart-held;
-            some_words = w.some;
+            some_words = x.words.some;
             short = w.few;
             room = enough;
           }

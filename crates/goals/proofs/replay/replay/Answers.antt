@@ -7,29 +7,29 @@ use Rattle.goals.proofs.ReplayLaws.{replay-ragged, replay-start, replay-within, 
 use Rattle.goals.proofs.replay.replay.Goals as goal
 
 pub returns-then-plan-ne0 : goal.returns-then-plan-ne0
-returns-then-plan-ne0 c = let a = c.args in replay-ragged a.card.bytes.now a.words.now.places a.words.now.count a.plan.now c.if-plan-ne0.true
+returns-then-plan-ne0 c = let a = c.args in replay-ragged a.card.bytes.now a.places.now a.n a.plan.now c.if-plan-ne0.true
 
 pub loop-k-init : goal.loop-k-init
-loop-k-init c = let a = c.args in rw c.start-goals.ensures (replay-start a.card.bytes.now a.words.now.places a.words.now.count a.plan.now c.args.words.now.some)
+loop-k-init c = let a = c.args in rw c.start-goals.ensures (replay-start a.card.bytes.now a.places.now a.n a.plan.now c.requires.0)
 
 pub advance-requires : goal.advance-requires
 advance-requires c =
     let a = c.args in
     let l = c.loop-k in
-    replay-within a.card.bytes.now a.words.now.places a.words.now.count a.plan.now l.goals l.k l.invariant a.words.now.few
+    replay-within a.card.bytes.now a.places.now a.n a.plan.now l.goals l.k l.invariant c.requires.1
 
 pub returns-then-not-advance : goal.returns-then-not-advance
 returns-then-not-advance c =
     let a = c.args in
     let l = c.loop-k in
-    replay-stuck a.card.bytes.now a.words.now.places a.words.now.count a.plan.now l.goals l.k l.invariant c.step_at.result (omega arith) c.step_at.ensures
+    replay-stuck a.card.bytes.now a.places.now a.n a.plan.now l.goals l.k l.invariant c.step_at.result (omega arith) c.step_at.ensures
     c.advance.new.self (rw c.if-not-advance.true at c.advance.ensures)
 
 pub loop-k-preserved : goal.loop-k-preserved
 loop-k-preserved c =
     let a = c.args in
     let l = c.loop-k in
-    replay-on a.card.bytes.now a.words.now.places a.words.now.count a.plan.now l.goals l.k l.invariant c.step_at.result (omega arith) c.step_at.ensures
+    replay-on a.card.bytes.now a.places.now a.n a.plan.now l.goals l.k l.invariant c.step_at.result (omega arith) c.step_at.ensures
     c.advance.new.self (rw c.if-not-advance.false at c.advance.ensures)
 
 pub returns : goal.returns
@@ -37,4 +37,4 @@ returns c =
     let a = c.args in
     let l = c.loop-k in
     same_answer _ (omega (arith, tests)) (omega (arith, tests))
-    ∙ replay-over a.card.bytes.now a.words.now.places a.words.now.count a.plan.now l.goals l.k l.invariant c.if-plan-ne0.false c.loop-k-test.false
+    ∙ replay-over a.card.bytes.now a.places.now a.n a.plan.now l.goals l.k l.invariant c.if-plan-ne0.false c.loop-k-test.false

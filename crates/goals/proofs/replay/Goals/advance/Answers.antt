@@ -9,19 +9,19 @@ use Rattle.goals.proofs.replay.Goals.advance.Goals as goal
 
 pub returns-then-productions-number : goal.returns-then-productions-number
 returns-then-productions-number c =
-    let a = c.args in advanced-missing a.card.bytes.now a.words.now.places a.step a.self.now (omega (arith, c.productions.ensures.counts))
+    let a = c.args in advanced-missing a.card.bytes.now a.places.now a.step a.self.now (omega (arith, c.productions.ensures.counts))
 
 pub returns-then-not-fits : goal.returns-then-not-fits
 returns-then-not-fits c =
     let a = c.args in
-    advanced-misfit a.card.bytes.now a.words.now.places a.step a.self.now c.in-Some.top (search rules) c.production-production.result
+    advanced-misfit a.card.bytes.now a.places.now a.step a.self.now c.in-Some.top (search rules) c.production-production.result
     (omega (arith, c.productions.ensures.counts)) (search rules) (search rules) (search rules) (search rules)
 
 pub returns : goal.returns
 returns c =
     let a = c.args in
     rw c.replace.ensures
-    (advanced-fit a.card.bytes.now a.words.now.places a.step a.self.now c.in-Some.top (search rules) c.production-production.result
+    (advanced-fit a.card.bytes.now a.places.now a.step a.self.now c.in-Some.top (search rules) c.production-production.result
     (omega (arith, c.productions.ensures.counts)) (search rules) (search rules) (search rules) c.requires.few_goals c.requires.few_indices (search rules))
 
 pub returns-then-step-top : goal.returns-then-step-top
@@ -29,9 +29,9 @@ returns-then-step-top c =
     let a = c.args in
     elim c.then-step-top.branch [
       | then-step-top-via-then-step-top w ↦
-          advanced-start a.card.bytes.now a.words.now.places a.step a.self.now c.in-Some.top (search rules) (λ e. omega (arith, w.if-step-top.true))
+          advanced-start a.card.bytes.now a.places.now a.step a.self.now c.in-Some.top (search rules) (λ e. omega (arith, w.if-step-top.true))
       | then-step-top-via-else-step-top+then-step-top-2 w ↦
-          advanced-end a.card.bytes.now a.words.now.places a.step a.self.now c.in-Some.top (search rules) (omega (arith, w.if-step-top.false))
+          advanced-end a.card.bytes.now a.places.now a.step a.self.now c.in-Some.top (search rules) (omega (arith, w.if-step-top.false))
           (λ e. omega (arith, w.if-step-top-2.true))
     ]
 
