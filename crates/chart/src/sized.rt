@@ -1,6 +1,6 @@
 // The tables beside the room, on the stack. Their sizes go by the words and by whether the card has few nonterminals, so that clearing
 // them costs little where little is needed: those of `_W` are for lines of up to W words, those of `_W_FEW` for cards of few nonterminals.
-ghost use Rattle.std.specs.Prelude.{◌+◌, ◌<◌};
+ghost use Rattle.std.specs.Prelude.{◌+◌, ◌≤◌, ◌<◌};
 ghost use Rattle.layout.specs.Card.{nonterminal_count};
 ghost use Rattle.chart.specs.Built.{LongEnough, TablesLent, ClosedIn};
 
@@ -92,7 +92,8 @@ fn build_with(
     crate::build::close_all(chart, marks, cells, sets, sizes, input)
 }
 
-// With tables of so many marks, cells and sets, few enough for an array each.
+// With tables of so many marks, cells and sets, few enough for an array each, in the frame of what calls this.
+#[inline(always)]
 fn build_sized<const MARKS: usize, const CELLS: usize, const SETS: usize>(
     input: Input,
     chart: &mut [u8],
@@ -108,8 +109,24 @@ fn build_sized<const MARKS: usize, const CELLS: usize, const SETS: usize>(
     build_with(input, chart, &mut marks, &mut cells, &mut sets)
 }
 
-// With the first tables that are large enough.
-pub fn build_in(input: Input, chart: &mut [u8]) -> Option<usize>
+// The tables of long lines, each in a frame of its own. Three frames in all, of which a line takes one: so none lies on another's.
+#[inline(never)]
+fn build_long<const MARKS: usize, const CELLS: usize, const SETS: usize>(
+    input: Input,
+    chart: &mut [u8],
+) -> Option<usize>
+    requires { (MARKS + CELLS + SETS < 65536)
+        × LongEnough input.words.now.count (nonterminal_count input.card.bytes.now) MARKS CELLS SETS }
+    ensures { ClosedIn input.entry.card.bytes.now input.entry.words.now.places input.entry.words.now.count
+        chart.old chart.new result }
+{
+    build_sized::<MARKS, CELLS, SETS>(input, chart)
+}
+
+// The first tables that are large enough for a line that is not long, in one frame, one size in the place of another.
+#[inline(never)]
+fn build_short(input: Input, chart: &mut [u8]) -> Option<usize>
+    requires { (input.words.now.count ≤ 16) × (12 < input.words.now.count → nonterminal_count input.card.bytes.now ≤ 6) }
     ensures { ClosedIn input.entry.card.bytes.now input.entry.words.now.places input.entry.words.now.count
         chart.old chart.new result }
 {
@@ -125,11 +142,23 @@ pub fn build_in(input: Input, chart: &mut [u8]) -> Option<usize>
         build_sized::<MARKS_12_FEW, CELLS_12_FEW, SETS_12>(input, chart)
     } else if n <= 12 {
         build_sized::<MARKS_12, CELLS_12, SETS_12>(input, chart)
-    } else if few && n <= 16 {
-        build_sized::<MARKS_16_FEW, CELLS_16_FEW, SETS_16>(input, chart)
-    } else if few {
-        build_sized::<MARKS_24_FEW, CELLS_24_FEW, SETS_24>(input, chart)
     } else {
-        build_sized::<MARKS_24, CELLS_24, SETS_24>(input, chart)
+        build_sized::<MARKS_16_FEW, CELLS_16_FEW, SETS_16>(input, chart)
+    }
+}
+
+// With the first tables that are large enough.
+pub fn build_in(input: Input, chart: &mut [u8]) -> Option<usize>
+    ensures { ClosedIn input.entry.card.bytes.now input.entry.words.now.places input.entry.words.now.count
+        chart.old chart.new result }
+{
+    let n = input.words.count;
+    let few = input.card.nonterminals() <= FEW;
+    if few && 16 < n {
+        build_long::<MARKS_24_FEW, CELLS_24_FEW, SETS_24>(input, chart)
+    } else if !few && 12 < n {
+        build_long::<MARKS_24, CELLS_24, SETS_24>(input, chart)
+    } else {
+        build_short(input, chart)
     }
 }
