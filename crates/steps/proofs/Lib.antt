@@ -1,4 +1,3 @@
 pub mod StepLaws
 pub mod StepCandidates
 pub mod StepCover
-pub mod StepReads

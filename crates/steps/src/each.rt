@@ -1,9 +1,8 @@
 // The feet of a range of records, each taken over into the open cell. A keep takes over those of its dependents, a give those of a dependent's
 // continuations: they differ only in the origin of the records that they make. Room, marks and cells are a parameter each here, in give.rt and in
 // step.rt for the reason at `records::add`.
-ghost use Rattle.std.specs.Prelude.{◌≡◌, ℕ};
+ghost use Rattle.std.specs.Prelude.{◌≡◌, ◌≤◌, ℕ};
 ghost use Rattle.records.specs.declared.record.Origin.{Origin};
-ghost use Rattle.records.specs.Cells.{range_in};
 ghost use Rattle.records.specs.Filling.{begun_with, over_range, Adding, AddedTo, Filling, RangeAt, AdvancedTo};
 ghost use Rattle.steps.specs.Candidates.{reached};
 
@@ -43,7 +42,8 @@ fn add_each<R: Reach>(
     Some(total)
 }
 
-// The same for all records of the cell of a number, which is passed over where the open cell covers it, and is covered by it then.
+// The same for all records of the cell of a number, whose range it is: the open cell covers that cell then. Who calls this looks first whether it
+// does already.
 pub fn take_over<R: Reach>(
     chart: &mut [u8],
     marks: &mut [u8],
@@ -51,16 +51,13 @@ pub fn take_over<R: Reach>(
     cell: OpenCell,
     reach: R,
     number: usize,
+    range: Range,
     count: usize,
 ) -> Option<usize>
-    requires { Filling cell chart.old marks.old cells.old count × RangeAt cell chart.old number (range_in cells.old number) }
-    ensures { AdvancedTo cell (over_range (reached cell (R.origin_at reach) (begun_with cell chart.old)) (range_in cells.old number))
+    requires { Filling cell chart.old marks.old cells.old count × RangeAt cell chart.old number range × (range.to ≤ cell.base) }
+    ensures { AdvancedTo cell (over_range (reached cell (R.origin_at reach) (begun_with cell chart.old)) range)
         chart.old marks.old cells.old count chart.new marks.new cells.new result }
 {
-    if records::cells::is_covered(cells, cell.number, number) {
-        return Some(count);
-    }
-    let range = records::cells::range_of(cells, number);
     if range.to <= range.from {
         return Some(count);
     }

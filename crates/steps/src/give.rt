@@ -50,12 +50,16 @@ fn give_one(
         return Some(count);
     }
     let number = records::record::number_at(chart, y) >> Card::INDICES_POWER;
+    if records::cells::is_covered(cells, cell.number, number) {
+        return Some(count);
+    }
     // By `as`: a record has two bytes for a position, there is no `From`, and that it fits is proved.
     let reach = Continued {
         side,
         dependent: y as u16,
     };
-    take_over(chart, marks, cells, cell, reach, number, count)
+    let range = records::cells::range_of(cells, number);
+    take_over(chart, marks, cells, cell, reach, number, range, count)
 }
 
 // Those of every dependent of a range.

@@ -1,16 +1,18 @@
 -- `give_one` adds the records of a give from one dependent: none where its foot has another index, and else those of the continuations, whose
 -- positions the table has as one range. The number of the foot tells where.
-use Prim.Native.Nat.{◌/◌}
+use Prim.Native.Nat.{ℕ, ◌/◌, ◌≤◌}
 use native.Mathlib.Omega.{arith}
-use mathlib.Core.Path.{◌≡◌, refl}
+use mathlib.Core.Path.{◌≡◌, refl, sym, ◌∙◌, ap, subst}
+use mathlib.Core.List.{List}
 use Rattle.records.specs.declared.record.Foot as declared
 use Rattle.records.specs.declared.cells.Range.{Range}
 use Rattle.records.specs.Room.{foot_fields}
-use Rattle.records.specs.Cells.{cell_at, range_in, SpanFits}
+use Rattle.records.specs.Cells.{cell_at, range_in, noted_anew, SpanFits}
+use Rattle.records.proofs.CellsLaws.{noted-range}
 use Rattle.records.specs.Filling.{begun_with, over_range, RangeAt}
 use Rattle.steps.specs.Candidates.{continues, gives}
-use Rattle.steps.proofs.StepCandidates.{cell-range, given-span, given-at, given-none, given-each}
-use Rattle.steps.proofs.StepCover.{advanced-kept, advanced-as}
+use Rattle.steps.proofs.StepCandidates.{to_below, cell-range, given-span, given-at, given-none, given-each}
+use Rattle.steps.proofs.StepCover.{advanced-kept, advanced-as, note-fits, look-fits, looked-at, advanced-looked, passed_over}
 use Rattle.steps.proofs.give.give_one.Goals.{After-number_at-number}
 use Rattle.steps.proofs.give.give_one.Goals as goal
 
@@ -35,6 +37,9 @@ module _ (c : After-number_at-number) where
   abbrev continuations : RangeAt c.args.cell c.args.chart.now (c.number_at-number.result / 8) R
   continuations = cell-range c.args.chart.now c.args.cell.base c.requires.0.indexed span place refl
 
+  below : R.to ≤ c.args.cell.base
+  below = let a = c.args in to_below a.chart.now a.cell.base c.requires.0.indexed (c.number_at-number.result / 8) refl
+
   given : let a = c.args in
       let b = begun_with a.cell a.chart.now in
       over_range (continues a.cell a.side a.y b) R ≡ gives a.cell a.side a.g b a.y
@@ -47,8 +52,42 @@ returns-then-given-g c =
     let q = c.requires in
     advanced-kept q.0 record { added = given-none q.0.works _ _ q.1 q.0.begun _ _ (omega (arith, c.if-given-g.true)); within = q.0.works.count_fits }
 
+-- The cell is looked for; the look changes no range.
+pub is_covered-requires : goal.is_covered-requires
+is_covered-requires c = look-fits c.requires.0 (continuations (goal.at.is_covered-requires c).After-number_at-number)
+
+pub returns-then-is_covered : goal.returns-then-is_covered
+returns-then-is_covered c =
+    let n = (goal.at.returns-then-is_covered c).After-number_at-number in
+    let a = c.args in
+    let e = c.is_covered.ensures in
+    advanced-as (given n)
+    (passed_over c.requires.0 (continuations n) (continues a.cell a.side a.y (begun_with a.cell a.chart.now)) (λ x. refl)
+    (sym e.0 ∙ c.if-is_covered.true) e.1)
+
+pub range_of-range-requires : goal.range_of-range-requires
+range_of-range-requires c =
+    let d = continuations (goal.at.range_of-range-requires c).After-number_at-number in
+    (note-fits (looked-at c.requires.0 d c.is_covered.ensures.1) d).1
+
+-- What is read after the look is what the table had.
+read-same : (cells : List ℕ) (coverer at : ℕ) {seen : List ℕ} {R : Range} → seen ≡ noted_anew cells coverer at → R ≡ range_in seen at
+    → range_in cells at ≡ R
+read-same cells coverer at e r = sym (r ∙ ap (λ (l : List ℕ). range_in l at) e ∙ noted-range cells coverer at at)
+
 pub take_over-requires : goal.take_over-requires
-take_over-requires c = (c.requires.0, continuations (goal.at.take_over-requires c).After-number_at-number)
+take_over-requires c =
+    let n = (goal.at.take_over-requires c).After-number_at-number in
+    let same = read-same c.args.cells.now c.args.cell.number (c.number_at-number.result / 8) c.is_covered.ensures.1 c.range_of-range.ensures in (
+      looked-at c.requires.0 (continuations n) c.is_covered.ensures.1,
+      subst (RangeAt c.args.cell c.args.chart.now (c.number_at-number.result / 8)) same (continuations n),
+      subst (λ (R : Range). R.to ≤ c.args.cell.base) same (below n),
+    )
 
 pub returns : goal.returns
-returns c = advanced-as (given (goal.at.returns c).After-number_at-number) c.take_over.ensures
+returns c =
+    let n = (goal.at.returns c).After-number_at-number in
+    let a = c.args in
+    let e = c.is_covered.ensures.1 in
+    let same = ap (over_range (continues a.cell a.side a.y (begun_with a.cell a.chart.now))) (sym (read-same a.cells.now a.cell.number (c.number_at-number.result / 8) e c.range_of-range.ensures)) in
+    advanced-looked c.requires.0 (continuations n) e (advanced-as (same ∙ given n) c.take_over.ensures)

@@ -1,15 +1,16 @@
 -- `by_action` adds what a production's action makes of its dependents, whose positions the table has as one range: what the model
 -- makes from the list of positions is made place by place.
 use Prim.Native.Nat.{◌≤◌}
-use mathlib.Core.Path.{refl, subst}
+use mathlib.Core.Path.{refl, sym, subst, ◌∙◌}
 use Rattle.card.specs.Productions.{action_from}
 use Rattle.records.specs.declared.cells.Range.{Range}
 use Rattle.records.specs.Cells.{range_in}
-use Rattle.records.specs.Filling.{RangeAt}
+use Rattle.records.specs.Filling.{begun_with, RangeAt}
+use Rattle.steps.specs.Candidates.{reached, kept_origin}
 use Rattle.steps.specs.Fits.{ActionFits}
 use Rattle.steps.proofs.StepLaws.{added-to-as}
 use Rattle.steps.proofs.StepCandidates.{to_below, cell-range, element-span, foot-made, foot-numbered, with-index, by-take, by-keep, by-give}
-use Rattle.steps.proofs.StepCover.{advanced-kept, advanced-as}
+use Rattle.steps.proofs.StepCover.{advanced-kept, advanced-as, look-fits, looked-at, advanced-looked, passed_over}
 use Rattle.steps.proofs.step.by_action.Goals.{After-number-number, In-Take}
 use Rattle.steps.proofs.step.by_action.Goals as goal
 
@@ -46,8 +47,22 @@ take_one-requires c =
       },
     )
 
+pub is_covered-requires : goal.is_covered-requires
+is_covered-requires c = look-fits c.requires.0 (dependents (goal.at.is_covered-requires c).After-number-number)
+
+pub returns-then-is_covered : goal.returns-then-is_covered
+returns-then-is_covered c =
+    let n = (goal.at.returns-then-is_covered c).After-number-number in
+    let a = c.args in
+    let e = c.is_covered.ensures in
+    advanced-as (by-keep _ _ _ _ _ _ _ _ _ (R n) (dependents n).stands c.in-Keep.is)
+    (passed_over c.requires.0 (dependents n) (reached a.cell (kept_origin a.side) (begun_with a.cell a.chart.now)) (λ x. refl)
+    (sym e.0 ∙ c.if-is_covered.true) e.1)
+
 pub take_over-requires : goal.take_over-requires
-take_over-requires c = (c.requires.0, dependents (goal.at.take_over-requires c).After-number-number)
+take_over-requires c =
+    let n = (goal.at.take_over-requires c).After-number-number in
+    rw c.range_of-range.ensures (looked-at c.requires.0 (dependents n) c.is_covered.ensures.1, dependents n, below n)
 
 pub give_each-requires : goal.give_each-requires
 give_each-requires c =
@@ -63,10 +78,13 @@ returns-in-Take c =
     (by-take _ _ _ _ _ _ _ _ _ c.range_of-range.result (rw c.range_of-range.ensures (dependents at.After-number-number).stands) c.in-Take.is (taken at.In-Take).0)
     c.take_one.ensures)
 
-pub returns-in-Keep : goal.returns-in-Keep
-returns-in-Keep c =
-    let n = (goal.at.returns-in-Keep c).After-number-number in
-    advanced-as (by-keep _ _ _ _ _ _ _ _ _ (R n) (dependents n).stands c.in-Keep.is) c.take_over.ensures
+pub returns-else-is_covered : goal.returns-else-is_covered
+returns-else-is_covered c =
+    let n = (goal.at.returns-else-is_covered c).After-number-number in
+    advanced-looked c.requires.0 (dependents n) c.is_covered.ensures.1
+    (advanced-as
+    (by-keep _ _ _ _ _ _ _ _ _ c.range_of-range.result (rw c.range_of-range.ensures (dependents n).stands) c.in-Keep.is)
+    c.take_over.ensures)
 
 pub returns-in-Give : goal.returns-in-Give
 returns-in-Give c =
