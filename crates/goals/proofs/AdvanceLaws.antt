@@ -169,7 +169,7 @@ can-take (Take γ') d γ top e h = let (e₁, e₂) = both (ltb 0 d) (eqb γ' γ
 can-take Keep d γ top e h = tt
 can-take (Give γ') d γ top e h = tt
 
-fits-take : (R : Rule) (here : ℕ) (top : Top) (k indices : ℕ) → fits_top R here top k ≡ true → top.depth ≤ indices
+pub fits-take : (R : Rule) (here : ℕ) (top : Top) (k indices : ℕ) → fits_top R here top k ≡ true → top.depth ≤ indices
     → CanTake (action_of R) indices
 fits-take (Lexical A' w) here top k indices e h = tt
 fits-take (Spine A' a before D after) here top k indices e h =

@@ -26,7 +26,7 @@ use Rattle.goals.proofs.GoalsTiled.{TiledAt, tiled-start, tiled-few, next-tiled}
 use Rattle.goals.proofs.ShownLaws.{tops-length, first-entry}
 
 -- Four bytes at a place.
-drop-four : (l : List ℕ) (at : ℕ) → at + 4 ≤ length l
+pub drop-four : (l : List ℕ) (at : ℕ) → at + 4 ≤ length l
     → drop at l ≡ get_or l at 0 ∷ get_or l (at + 1) 0 ∷ get_or l (at + 2) 0 ∷ get_or l (at + 3) 0 ∷ drop (at + 4) l
 drop-four l at h =
     rw (add-one, add-two, add-three, add-four)

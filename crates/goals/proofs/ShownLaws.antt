@@ -25,7 +25,7 @@ pub tops-length : {A : Type 0} (x : A) (xs : List A) (n : ℕ) → length (tops 
 tops-length x xs zero = refl
 tops-length x xs (suc n) = ap suc (tops-length x xs n)
 
-tops_above : {A : Type 0} (x : A) (xs : List A) (n m : ℕ) (v : A) → n ≤ m → tops x (set xs m v) n ≡ tops x xs n
+pub tops_above : {A : Type 0} (x : A) (xs : List A) (n m : ℕ) (v : A) → n ≤ m → tops x (set xs m v) n ≡ tops x xs n
 tops_above x xs zero m v h = refl
 tops_above {A} x xs (suc n) m v h =
     ap₂ (λ (y : A) (l : List A). y ∷ l) (get_or-set_other xs m n v x (λ e. omega arith)) (tops_above x xs n m v (omega arith))
@@ -35,7 +35,7 @@ tops-put {A} x xs n v h =
     ap₂ (λ (y : A) (l : List A). y ∷ l) (get_or-set_same xs n v x h) (tops_above x xs n n v (omega arith))
 
 -- One store replaces the last entry, one adds an entry.
-tops-two : {A : Type 0} (x : A) (xs : List A) (m n : ℕ) (v w : A) → n ≡ suc m → n < length xs
+pub tops-two : {A : Type 0} (x : A) (xs : List A) (m n : ℕ) (v w : A) → n ≡ suc m → n < length xs
     → tops x (set (set xs m v) n w) (suc n) ≡ w ∷ v ∷ tops x xs m
 tops-two {A} x xs m n v w e h =
     tops-put x (set xs m v) n w (rw length-set h)
@@ -60,7 +60,7 @@ module _ (g : Goals) (A j : ℕ) (s : List ℕ) (rest : List Goal) (x : Shows g 
   other-entries : tops no_goal g.goals (g.count - 1) ≡ entries_of rest
   other-entries = tail-eq_of_cons-eq shown-entries
 
-  shows-word : s ≡ [] → Shows (record g { count = g.count - 1; place = (last_entry g).end }) rest
+  pub shows-word : s ≡ [] → Shows (record g { count = g.count - 1; place = (last_entry g).end }) rest
   shows-word e = record {
     all_goals = x.all_goals;
     all_stack = x.all_stack;

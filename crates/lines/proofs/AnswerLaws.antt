@@ -78,7 +78,7 @@ module _ {card line plan before after : List ℕ} {r : Result ℕ Refusal} {coun
   pub count-few : count ≤ 47
   count-few = omega (arith, count-is, (pairs-fit card line plan 94).count)
 
-  pairs-taken : take (2 * count) after ≡ pairs_bytes pairs
+  pub pairs-taken : take (2 * count) after ≡ pairs_bytes pairs
   pairs-taken =
       ap (take (2 * count)) (p.room ∙ ap (λ (n : ℕ). pairs_after (pairs_answer card line plan n).pairs before) l)
       ∙ take_at (pairs_bytes pairs) (drop (2 * length pairs) before) (2 * count) (omega (arith, pairs-bytes-length pairs, count-is))

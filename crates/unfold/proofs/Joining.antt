@@ -77,7 +77,7 @@ module _ {source : Source} {stack stack₁ : List ℕ} {beside next : ℕ} {whol
 -- The side first: it has its place on the stack above what is pending for the spine, and leaves that.
 module _ {source : Source} {stack stack₁ plan plan₁ : List ℕ} {here beside next : ℕ} {whole rest : Rest}
     (asked : Asked source stack whole plan here) (opens : Opens source stack whole stack₁ plan here plan₁ (SideFirst beside rest next)) where
-  rest-above : rest.base ≤ rest.depth
+  pub rest-above : rest.base ≤ rest.depth
   rest-above = (first-follows opens.opened).above
 
   pub side-before : (length_at source.chart.now beside < length_at source.chart.now whole.position)
