@@ -54,17 +54,17 @@ module _ (card line plan before after : List ℕ) (a : Result ℕ Refusal) (pair
       let h = pairs-fit card line plan (length before) in
       (subst (λ (x : ℕ). x ≤ most_number) (sym paired.number) h.number, subst (λ (x : ℕ). x ≤ 47) (sym paired.count) h.count)
 
--- The place and the size of a name, which lies within a word's entry.
+-- The place and the size of a name, which lies within a word's entry, and so near the start of the card.
 abbrev found : ℕ → ℕ → NameAnswer
 found offset size = record { number = 0; offset = offset; size = size }
 
-pub name-fits : (card : List ℕ) (word offset size : ℕ) → found offset size ≡ name_answer card word → (offset < 65536) × (size < 65536)
+pub name-fits : (card : List ℕ) (word offset size : ℕ) → found offset size ≡ name_answer card word → (offset < 4096) × (size < 4096)
 name-fits card word offset size = by-test (eqb (name_number card word) 0) refl
   where
     by-test : (b : Bool) → eqb (name_number card word) 0 ≡ b
         → found offset size
         ≡ cond b (found (entry_at card word + 1) (spelling_length card word)) (record { number = name_number card word; offset = 0; size = 0 })
-        → (offset < 65536) × (size < 65536)
+        → (offset < 4096) × (size < 4096)
     by-test true t e =
         let known = known-word card word (eqb-true (name_number card word) 0 t) in
         let at = ap (λ (a : NameAnswer). a.offset) e in
