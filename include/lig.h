@@ -371,21 +371,21 @@ uint64_t lig_sheet(const uint8_t *card, size_t card_length,
  * and the arguments on the stack included:
  *
  *     line of        1 to 6 words   7 to 12 words   13 to 24 words
- *     lig_card_check      128             128             128
- *     lig_read         15,024          15,696          64,456
- *     lig_read/few     15,024          15,696          37,464
- *     lig_check           872             872             872
- *     lig_pairs         1,000           1,000           1,000
- *     lig_name            144             144             144
- *     lig_sheet        17,504          18,176          66,936
- *     lig_sheet/few    17,504          18,176          39,944
+ *     lig_card_check      104             104             104
+ *     lig_read         15,992          15,992          50,712
+ *     lig_read/few     15,992          15,992          23,704
+ *     lig_check           904             904             904
+ *     lig_pairs           984             984             984
+ *     lig_name            120             120             120
+ *     lig_sheet        18,392          18,392          53,112
+ *     lig_sheet/few    18,392          18,392          26,104
  *
  * lig_read/few and lig_sheet/few are these calls with a card of at most 6 nonterminals. Of a sheet
- * the longest line counts, and not how many lines there are. Under a card that is accepted lig_read
- * takes most of the first column also for a line that it refuses. lig_sheet takes 2,480 more than
- * lig_read, in every column: it keeps the records of all lines until the last line is read. The
- * figures below have at least 128 bytes to spare, as much as a function may use below the stack
- * pointer. Interrupts that run on the same stack come on top.
+ * the longest line counts, and not how many lines there are. For a line that it refuses under an
+ * accepted card, with another number than 31, lig_read took less than 1,000. lig_sheet takes 2,400
+ * more than lig_read, in every column: it keeps the records of all lines until the last line is
+ * read. The figures below have at least 128 bytes to spare, as much as a function may use below the
+ * stack pointer. Interrupts that run on the same stack come on top.
  *
  * Nanoseconds that each call took, measured and not promised. make bench runs the calls on many
  * cards and lines. The longest median that one run saw, on two cores of a virtual machine (AMD
