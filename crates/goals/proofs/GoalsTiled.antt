@@ -1,6 +1,7 @@
 -- The goals tile the line from the present place to its end, and each stack is less deep than its goal's stretch is long. So the
--- goals and all their indices together are no more than the places left; a step keeps this, by the cases of its rule.
-use Prim.Native.Nat.{ℕ, ◌+◌, ◌≤◌, ◌<◌}
+-- goals and all their indices together are no more than the places left; a step keeps this, by the cases of its rule. Where the
+-- line has no words its first goal covers none, so it is no tile; and no rule fits it.
+use Prim.Native.Nat.{ℕ, zero, suc, ◌+◌, ◌≤◌, ◌<◌}
 use native.Mathlib.Omega.{arith}
 use mathlib.Core.Path.{◌≡◌, refl}
 use mathlib.Core.Bool.{Bool, true, false, ◌&&◌}
@@ -12,7 +13,7 @@ use Rattle.grammar.specs.Rewriting.{Rule, Lexical, Spine, Action, Take, Keep, Gi
 use Rattle.grammar.specs.Plan.{PlanStep, plan_step, production_in}
 use Rattle.goals.specs.Goals.{Goal, goal, Standing, stuck, standing, top_index, depth_after, stack_after, fits, replaced, turn_to, turn, next, Tiled, reached, tiled}
 use Rattle.goals.specs.Shown.{indices_of}
-use Rattle.goals.proofs.GoalsTest.{pair_fits}
+use Rattle.goals.proofs.GoalsTest.{word_fits, pair_fits}
 
 abbrev pub TiledAt : ℕ → Standing → Type 0
 TiledAt n stuck = Unit
@@ -64,3 +65,46 @@ turn-tiled at (some R) (plan_step p i' k j') n i (goal A s j ∷ rest) (tiled h 
 pub next-tiled : (g : List Rule) (at : ℕ → ℕ → Bool) (st : PlanStep) (n : ℕ) (S : Standing) → TiledAt n S → TiledAt n (next g at st S)
 next-tiled g at st n stuck t = tt
 next-tiled g at st n (standing i goals) t = turn-tiled at (get_elem? g (production_in st)) st n i goals t
+
+-- Where a replay stands: at goals that tile the line, or at the first goal of a line of no words.
+pub data Placed : ℕ → ℕ → List Goal → Type 0 where
+  on_tiles : {i n : ℕ} {goals : List Goal} → Tiled i n goals → Placed i n goals
+  no_words : Placed 0 0 (goal 0 [] 0 ∷ [])
+
+abbrev pub PlacedAt : ℕ → Standing → Type 0
+PlacedAt n stuck = Unit
+PlacedAt n (standing i goals) = Placed i n goals
+
+pub placed-start : (n : ℕ) → Placed 0 n (goal 0 [] n ∷ [])
+placed-start zero = no_words
+placed-start (suc n) = on_tiles (tiled-start (suc n) (omega arith))
+
+pub placed-few : {i n : ℕ} {goals : List Goal} → n ≤ 24 → Placed i n goals
+    → (length goals ≤ 24) × (length (indices_of goals) ≤ 24) × (0 < length goals → i < 24)
+placed-few h (on_tiles t) = let few = tiled-few t in (omega arith, omega arith, λ p. omega arith)
+placed-few h no_words = (omega arith, omega arith, λ p. omega arith)
+
+none-fits : (R : Rule) (here : ℕ → Bool) (k : ℕ) → fits R here 0 0 0 0 k 0 ≡ true → ⊥
+none-fits (Lexical A w) here k e = let (e₁, e₂, e₃, e₄, e₅) = word_fits here A w 0 0 0 0 k 0 e in omega arith
+none-fits (Spine A a before D after) here k e =
+    let (e₁, e₂, e₃, e₄, e₅) = pair_fits here A a before D after 0 0 0 0 k 0 e in omega arith
+
+none-turns : (at : ℕ → ℕ → Bool) (o : Option Rule) (st : PlanStep) → turn at o st 0 (goal 0 [] 0 ∷ []) ≡ stuck
+none-turns at none st = refl
+none-turns at (some R) (plan_step p i' k j') =
+    go (eqb i' 0) (eqb j' 0) (fits R (at 0) 0 0 0 0 k 0) (none-fits R (at 0) k)
+  where
+    go : (a b c : Bool) → (c ≡ true → ⊥) → turn_to (a && (b && c)) (replaced R [] 0 k 0 []) ≡ stuck
+    go false b c f = refl
+    go true false c f = refl
+    go true true false f = refl
+    go true true true f = absurd (f refl)
+
+pub next-placed : (g : List Rule) (at : ℕ → ℕ → Bool) (st : PlanStep) (n i : ℕ) (goals : List Goal) → Placed i n goals
+    → PlacedAt n (next g at st (standing i goals))
+next-placed g at st n i goals (on_tiles t) = go (next g at st (standing i goals)) (next-tiled g at st n (standing i goals) t)
+  where
+    go : (S : Standing) → TiledAt n S → PlacedAt n S
+    go stuck u = tt
+    go (standing i' rest) u = on_tiles u
+next-placed g at st n i goals no_words = rw (none-turns at (get_elem? g (production_in st)) st) tt

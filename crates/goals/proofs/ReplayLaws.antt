@@ -17,12 +17,12 @@ use Rattle.places.specs.Places.{word_test}
 use Rattle.grammar.specs.Plan.{PlanStep, plan_step}
 use Rattle.layout.specs.Card.{grammar_of}
 use Rattle.layout.specs.Steps.{and_step, steps_of}
-use Rattle.goals.specs.Goals.{Goal, goal, Standing, stuck, standing, all_reached, next, goals_run, goals_start, replay_from, Tiled}
+use Rattle.goals.specs.Goals.{Goal, goal, Standing, stuck, standing, all_reached, next, goals_run, goals_start, replay_from}
 use Rattle.goals.specs.Shown.{no_goal, indices_of, entries_of, last_entry, started, Shows, ShowsAt, Within, step_from, StepAt, Replayed}
 use Rattle.goals.specs.declared.replay.Goal as code
 use Rattle.goals.specs.declared.replay.Goals.{Goals}
 use Rattle.goals.specs.declared.replay.StepBytes.{StepBytes}
-use Rattle.goals.proofs.GoalsTiled.{TiledAt, tiled-start, tiled-few, next-tiled}
+use Rattle.goals.proofs.GoalsTiled.{Placed, PlacedAt, placed-start, placed-few, next-placed}
 use Rattle.goals.proofs.ShownLaws.{tops-length, first-entry}
 
 -- Four bytes at a place.
@@ -93,7 +93,7 @@ module _ (card places : List ℕ) (n : ℕ) (plan : List ℕ) where
   -- What the loop keeps, at step k.
   pub record Replaying (g : Goals) (k : ℕ) : Type 0 where
     pub goals : List Goal
-    pub tiles : Tiled g.place n goals
+    pub tiles : Placed g.place n goals
     pub shows : Shows g goals
     pub same : passes (standing g.place goals) (drop (4 * k) plan) ≡ Answer
 
@@ -102,10 +102,10 @@ module _ (card places : List ℕ) (n : ℕ) (plan : List ℕ) where
       ap (replay_from (grammar_of card) (word_test places) (goals_start n))
       (sym (ragged plan (λ e. h (and_mask (length plan) 2 ∙ e))))
 
-  pub replay-start : 0 < n → Replaying (started n) 0
-  replay-start h = record {
+  pub replay-start : Replaying (started n) 0
+  replay-start = record {
     goals = goal 0 [] n ∷ [];
-    tiles = tiled-start n h;
+    tiles = placed-start n;
     shows = record { all_goals = refl; all_stack = refl; shown_goals = refl; shown_stack = refl };
     same = refl;
   }
@@ -114,13 +114,13 @@ module _ (card places : List ℕ) (n : ℕ) (plan : List ℕ) where
     -- The goals and indices are few, as they tile the line.
     pub replay-within : n ≤ 24 → Within g
     replay-within h =
-        let few = tiled-few x.tiles in
+        let (few₁, few₂, few₃) = placed-few h x.tiles in
         let c = count-is x.shows in
         let t = top-is x.shows in
         record {
           few_goals = omega arith;
           few_indices = omega arith;
-          in_line = λ p. omega arith;
+          in_line = λ p. few₃ (omega arith);
           based = base-below g x.goals x.shows;
         }
 
@@ -149,9 +149,9 @@ module _ (card places : List ℕ) (n : ℕ) (plan : List ℕ) where
       pub replay-on : Replayed card places st g g' true → Replaying g' (k + 1)
       replay-on y =
           go Then (y.told x.goals x.shows)
-          (next-tiled (grammar_of card) (word_test places) (step_from st) n (standing g.place x.goals) x.tiles) rest-same
+          (next-placed (grammar_of card) (word_test places) (step_from st) n g.place x.goals x.tiles) rest-same
         where
-          go : (S : Standing) → ShowsAt g' S → TiledAt n S → passes S (drop (4 * k + 4) plan) ≡ Answer → Replaying g' (k + 1)
+          go : (S : Standing) → ShowsAt g' S → PlacedAt n S → passes S (drop (4 * k + 4) plan) ≡ Answer → Replaying g' (k + 1)
           go stuck w t d = absurd w
           go (standing i goals) w t d =
               let q : 4 * (k + 1) ≡ 4 * k + 4 = omega arith in

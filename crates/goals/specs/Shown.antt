@@ -32,7 +32,7 @@ abbrev pub entries_of : List Goal → List code.Goal
 entries_of [] = []
 entries_of (goal A s j ∷ rest) = entry A j (length (indices_of rest)) ∷ entries_of rest
 
--- No array runs out: a line has at most 24 words, and there are never more goals or indices than words left.
+-- No array runs out: a line has at most 24 words, and there are never more goals or indices than words left, or one goal where the line has none.
 abbrev pub entries : ℕ
 entries = 25
 

@@ -2,3 +2,5 @@
 #![tactic(auto)]
 
 pub mod replay;
+#[cfg(test)]
+mod tests;

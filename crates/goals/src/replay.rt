@@ -250,9 +250,9 @@ pub fn step_at(plan: &[u8], at: usize) -> StepBytes
 }
 
 // Does the plan, all its bytes, derive the line of n words, whatever stands past them? The first step that cannot stand ends it. There are
-// never more goals or indices than words.
+// never more goals or indices than words; a line of no words has one goal, which no step fits.
 pub fn replay(card: Card, places: &[u32; MOST_WORDS], n: usize, plan: &[u8]) -> bool
-    requires { (0 < n) × (n ≤ 24) }
+    requires { n ≤ 24 }
     ensures { result ≡ model.replay_from (grammar_of card.entry.bytes.now) (word_test places.now)
         (model.goals_start n) (steps_of plan.now) }
 {

@@ -1,3 +1,4 @@
 pub mod StepLaws
 pub mod StepCandidates
 pub mod StepCover
+pub mod StepReads

@@ -10,13 +10,13 @@ pub returns-then-plan-ne0 : goal.returns-then-plan-ne0
 returns-then-plan-ne0 c = let a = c.args in replay-ragged a.card.bytes.now a.places.now a.n a.plan.now c.if-plan-ne0.true
 
 pub loop-k-init : goal.loop-k-init
-loop-k-init c = let a = c.args in rw c.start-goals.ensures (replay-start a.card.bytes.now a.places.now a.n a.plan.now c.requires.0)
+loop-k-init c = let a = c.args in rw c.start-goals.ensures (replay-start a.card.bytes.now a.places.now a.n a.plan.now)
 
 pub advance-requires : goal.advance-requires
 advance-requires c =
     let a = c.args in
     let l = c.loop-k in
-    replay-within a.card.bytes.now a.places.now a.n a.plan.now l.goals l.k l.invariant c.requires.1
+    replay-within a.card.bytes.now a.places.now a.n a.plan.now l.goals l.k l.invariant c.requires
 
 pub returns-then-not-advance : goal.returns-then-not-advance
 returns-then-not-advance c =

@@ -1,18 +1,17 @@
 -- `give_one` adds the records of a give from one dependent: none where its foot has another index, and else those of the continuations, whose
 -- positions the table has as one range. The number of the foot tells where.
-use Prim.Native.Nat.{ℕ, ◌/◌, ◌≤◌}
+use Prim.Native.Nat.{◌/◌}
 use native.Mathlib.Omega.{arith}
-use mathlib.Core.Path.{◌≡◌, refl, sym, ◌∙◌, ap, subst}
-use mathlib.Core.List.{List}
+use mathlib.Core.Path.{◌≡◌, refl, sym, ◌∙◌}
 use Rattle.records.specs.declared.record.Foot as declared
 use Rattle.records.specs.declared.cells.Range.{Range}
 use Rattle.records.specs.Room.{foot_fields}
-use Rattle.records.specs.Cells.{cell_at, range_in, noted_anew, SpanFits}
-use Rattle.records.proofs.CellsLaws.{noted-range}
+use Rattle.records.specs.Cells.{cell_at, range_in, SpanFits}
 use Rattle.records.specs.Filling.{begun_with, over_range, RangeAt}
 use Rattle.steps.specs.Candidates.{continues, gives}
-use Rattle.steps.proofs.StepCandidates.{to_below, cell-range, given-span, given-at, given-none, given-each}
-use Rattle.steps.proofs.StepCover.{advanced-kept, advanced-as, note-fits, look-fits, looked-at, advanced-looked, passed_over}
+use Rattle.steps.proofs.StepCandidates.{cell-range, given-span, given-at, given-none, given-each}
+use Rattle.steps.proofs.StepCover.{advanced-kept, advanced-as, note-fits, look-fits, looked-at, passed_over}
+use Rattle.steps.proofs.StepReads.{looked, read-at, read-below, as-read}
 use Rattle.steps.proofs.give.give_one.Goals.{After-number_at-number}
 use Rattle.steps.proofs.give.give_one.Goals as goal
 
@@ -36,9 +35,6 @@ module _ (c : After-number_at-number) where
 
   abbrev continuations : RangeAt c.args.cell c.args.chart.now (c.number_at-number.result / 8) R
   continuations = cell-range c.args.chart.now c.args.cell.base c.requires.0.indexed span place refl
-
-  below : R.to ≤ c.args.cell.base
-  below = let a = c.args in to_below a.chart.now a.cell.base c.requires.0.indexed (c.number_at-number.result / 8) refl
 
   given : let a = c.args in
       let b = begun_with a.cell a.chart.now in
@@ -70,24 +66,19 @@ range_of-range-requires c =
     let d = continuations (goal.at.range_of-range-requires c).After-number_at-number in
     (note-fits (looked-at c.requires.0 d c.is_covered.ensures.1) d).1
 
--- What is read after the look is what the table had.
-read-same : (cells : List ℕ) (coverer at : ℕ) {seen : List ℕ} {R : Range} → seen ≡ noted_anew cells coverer at → R ≡ range_in seen at
-    → range_in cells at ≡ R
-read-same cells coverer at e r = sym (r ∙ ap (λ (l : List ℕ). range_in l at) e ∙ noted-range cells coverer at at)
-
+-- What is read after the look is what the table had (`StepReads`).
 pub take_over-requires : goal.take_over-requires
 take_over-requires c =
-    let n = (goal.at.take_over-requires c).After-number_at-number in
-    let same = read-same c.args.cells.now c.args.cell.number (c.number_at-number.result / 8) c.is_covered.ensures.1 c.range_of-range.ensures in (
-      looked-at c.requires.0 (continuations n) c.is_covered.ensures.1,
-      subst (RangeAt c.args.cell c.args.chart.now (c.number_at-number.result / 8)) same (continuations n),
-      subst (λ (R : Range). R.to ≤ c.args.cell.base) same (below n),
-    )
+    let h = c.requires.0 in
+    let d = continuations (goal.at.take_over-requires c).After-number_at-number in
+    let e = c.is_covered.ensures.1 in
+    let r = c.range_of-range.ensures in
+    (looked h d e r, read-at h d e r, read-below h d e r)
 
 pub returns : goal.returns
 returns c =
     let n = (goal.at.returns c).After-number_at-number in
     let a = c.args in
-    let e = c.is_covered.ensures.1 in
-    let same = ap (over_range (continues a.cell a.side a.y (begun_with a.cell a.chart.now))) (sym (read-same a.cells.now a.cell.number (c.number_at-number.result / 8) e c.range_of-range.ensures)) in
-    advanced-looked c.requires.0 (continuations n) e (advanced-as (same ∙ given n) c.take_over.ensures)
+    advanced-as (given n)
+    (as-read c.requires.0 (continuations n) c.is_covered.ensures.1 c.range_of-range.ensures
+    (continues a.cell a.side a.y (begun_with a.cell a.chart.now)) c.take_over.ensures)
