@@ -49,18 +49,20 @@ replaced-tiled at (Spine A' a (B ∷ []) D []) A s i k j n rest e t =
 replaced-tiled at (Spine A' a (B ∷ []) D (C ∷ after)) A s i k j n rest e t = tt
 replaced-tiled at (Spine A' a (B ∷ C ∷ before) D after) A s i k j n rest e t = tt
 
+-- What holds of a replaced goal where the rule fits, and where nothing fits any more, holds of a turn.
+turn-holds : (P : Standing → Type 0) (a b c : Bool) (S : Standing) → P stuck → (c ≡ true → P S) → P (turn_to (a && (b && c)) S)
+turn-holds P false b c S p f = p
+turn-holds P true false c S p f = p
+turn-holds P true true false S p f = p
+turn-holds P true true true S p f = f refl
+
 turn-tiled : (at : ℕ → ℕ → Bool) (o : Option Rule) (st : PlanStep) (n i : ℕ) (goals : List Goal) → Tiled i n goals
     → TiledAt n (turn at o st i goals)
 turn-tiled at o st n i [] t = tt
 turn-tiled at none st n i (x ∷ rest) t = tt
 turn-tiled at (some R) (plan_step p i' k j') n i (goal A s j ∷ rest) (tiled h t) =
-    go (eqb i' i) (eqb j' j) (fits R (at i) A (length s) (top_index s) i k j) (λ e. replaced-tiled at R A s i k j n rest e t)
-  where
-    go : (a b c : Bool) → (c ≡ true → TiledAt n (replaced R s i k j rest)) → TiledAt n (turn_to (a && (b && c)) (replaced R s i k j rest))
-    go false b c f = tt
-    go true false c f = tt
-    go true true false f = tt
-    go true true true f = f refl
+    turn-holds (TiledAt n) (eqb i' i) (eqb j' j) (fits R (at i) A (length s) (top_index s) i k j) (replaced R s i k j rest) tt
+    (λ e. replaced-tiled at R A s i k j n rest e t)
 
 pub next-tiled : (g : List Rule) (at : ℕ → ℕ → Bool) (st : PlanStep) (n : ℕ) (S : Standing) → TiledAt n S → TiledAt n (next g at st S)
 next-tiled g at st n stuck t = tt
@@ -89,16 +91,11 @@ none-fits (Lexical A w) here k e = let (e₁, e₂, e₃, e₄, e₅) = word_fit
 none-fits (Spine A a before D after) here k e =
     let (e₁, e₂, e₃, e₄, e₅) = pair_fits here A a before D after 0 0 0 0 k 0 e in omega arith
 
-none-turns : (at : ℕ → ℕ → Bool) (o : Option Rule) (st : PlanStep) → turn at o st 0 (goal 0 [] 0 ∷ []) ≡ stuck
-none-turns at none st = refl
-none-turns at (some R) (plan_step p i' k j') =
-    go (eqb i' 0) (eqb j' 0) (fits R (at 0) 0 0 0 0 k 0) (none-fits R (at 0) k)
-  where
-    go : (a b c : Bool) → (c ≡ true → ⊥) → turn_to (a && (b && c)) (replaced R [] 0 k 0 []) ≡ stuck
-    go false b c f = refl
-    go true false c f = refl
-    go true true false f = refl
-    go true true true f = absurd (f refl)
+turn-none : (at : ℕ → ℕ → Bool) (o : Option Rule) (st : PlanStep) → PlacedAt 0 (turn at o st 0 (goal 0 [] 0 ∷ []))
+turn-none at none st = tt
+turn-none at (some R) (plan_step p i' k j') =
+    turn-holds (PlacedAt 0) (eqb i' 0) (eqb j' 0) (fits R (at 0) 0 0 0 0 k 0) (replaced R [] 0 k 0 []) tt
+    (λ e. absurd (none-fits R (at 0) k e))
 
 pub next-placed : (g : List Rule) (at : ℕ → ℕ → Bool) (st : PlanStep) (n i : ℕ) (goals : List Goal) → Placed i n goals
     → PlacedAt n (next g at st (standing i goals))
@@ -107,4 +104,4 @@ next-placed g at st n i goals (on_tiles t) = go (next g at st (standing i goals)
     go : (S : Standing) → TiledAt n S → PlacedAt n S
     go stuck u = tt
     go (standing i' rest) u = on_tiles u
-next-placed g at st n i goals no_words = rw (none-turns at (get_elem? g (production_in st)) st) tt
+next-placed g at st n i goals no_words = turn-none at (get_elem? g (production_in st)) st

@@ -111,7 +111,7 @@ module _ (card places : List ℕ) (n : ℕ) (plan : List ℕ) where
   }
 
   module _ (g : Goals) (k : ℕ) (x : Replaying g k) where
-    -- The goals and indices are few, as they tile the line.
+    -- The goals and indices are few, as they tile the line, or are one goal over none.
     pub replay-within : n ≤ 24 → Within g
     replay-within h =
         let (few₁, few₂, few₃) = placed-few h x.tiles in
